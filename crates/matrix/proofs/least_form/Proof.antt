@@ -1,0 +1,46 @@
+-- The invariant: what is left has the least form of what came in.
+use mathlib.Core.Path.{_≡_, sym, ap, _∙_}
+use Prim.Native.Nat.{_-_}
+use borrow.Author.Needs.{needs}
+use borrow.Author.Tests.{not-true, not-false}
+use Rattle.matrix.specs.Array.{leastForm}
+use Rattle.matrix.specs.Laws.Array.{least-turn, least-odd, least-small}
+use Rattle.matrix.proofs.least_form.Statement.{statement}
+use Rattle.matrix.proofs.least_form.Tie as tie
+
+abbrev Inv-loop : tie.InvT-loop
+Inv-loop k exponent₀ matrix₀ exponent matrix = leastForm exponent₀ matrix₀ ≡ leastForm exponent matrix
+
+abbrev μ-loop : tie.MeasureT-loop
+μ-loop k exponent₀ matrix₀ exponent matrix = exponent
+
+loop-holds : tie.Need-loop-holds Inv-loop μ-loop
+loop-holds c = search needs
+
+all-even-requires : tie.Need-all-even-requires Inv-loop μ-loop
+all-even-requires c κs = search needs
+
+returns : tie.Need-returns Inv-loop μ-loop
+returns c =
+    let l = c .before .before .before in
+    sym (l .loop .inv ∙ least-odd (l .loop .exponent) (l .loop .matrix) (sym (c .before .all-even .ensures) ∙ not-true _ (c .if1 .taken)))
+
+halve-requires : tie.Need-halve-requires Inv-loop μ-loop
+halve-requires c κs = search needs
+
+loop-less : tie.Need-loop-less Inv-loop μ-loop
+loop-less c = search needs
+
+loop-again : tie.Need-loop-again Inv-loop μ-loop
+loop-again c =
+    let l = c .before .before .before .before in
+    l .loop .inv
+    ∙ least-turn (l .loop .exponent) (l .loop .matrix) (c .before .before .before .loop-test .taken) (sym (c .before .before .all-even .ensures) ∙ not-false _ (c .before .if1 .left))
+    ∙ ap (leastForm (l .loop .exponent - 2)) (sym (c .halve .ensures))
+
+returns-2 : tie.Need-returns-2 Inv-loop μ-loop
+returns-2 c = let l = c .before in sym (l .loop .inv ∙ least-small (l .loop .exponent) (l .loop .matrix) (c .loop-test .left))
+
+pub least-form-spec : {M : Type 1} → statement M
+least-form-spec =
+    tie.close (tie.spec Inv-loop μ-loop loop-holds all-even-requires returns halve-requires loop-less loop-again returns-2)

@@ -1,0 +1,179 @@
+// Exact arithmetic on a matrix of 36 whole numbers, row by row, passed and returned by value.
+// The contracts cite the definitions of specs/Array.antt; entries of at most 2^30 in size leave room for the sum of six products.
+
+ghost use mathlib.Core.Path.{_≡_};
+ghost use Prim.Native.Nat.{_<_, _≤_, _^_};
+ghost use lib.IntN.{pos};
+ghost use Rattle.matrix.specs.Integer.{parity};
+ghost use Rattle.matrix.specs.Matrix.{entry, listed, rowProduct};
+ghost use Rattle.matrix.specs.Array.{Bounded, orthogonalAt, isOrthogonal, isWithin, rowMask, rowWeight, allEven, halved, halfSums, leastForm};
+
+// An operator at its least exponent.
+pub struct Least {
+    pub exponent: u8,
+    pub matrix: [i64; 36],
+}
+
+// 2 to the power k.
+pub fn power_of_two(k: u8) -> i64
+    requires { ⌜ k ≤ 60 ⌝ }
+    ensures { λ r. ⌜ r ≡ pos (2 ^ k) ⌝ }
+{
+    (1u64 << k) as i64
+}
+
+// The product of rows i and j.
+pub fn row_product(m: [i64; 36], i: usize, j: usize) -> i64
+    requires { ⌜ (i < 6) × (j < 6) × Bounded (2 ^ 30) (entry m) ⌝ }
+    ensures { λ r. ⌜ r ≡ rowProduct 6 (entry m) i j ⌝ }
+{
+    let mut sum = 0i64;
+    let mut c = 0usize;
+    while c < 6 {
+        sum = sum + m[i * 6 + c] * m[j * 6 + c];
+        c += 1;
+    }
+    sum
+}
+
+// 1 where x is odd, 0 where it is even.
+pub fn parity_of(x: i64) -> u8
+    ensures { λ r. ⌜ r ≡ parity x ⌝ }
+{
+    let rest = x % 2;
+    if rest == 0 {
+        return 0;
+    }
+    1
+}
+
+// Whether every entry is even.
+pub fn all_even(m: [i64; 36]) -> bool
+    ensures { λ r. ⌜ r ≡ allEven (entry m) ⌝ }
+{
+    let mut n = 0usize;
+    while n < 36 {
+        if parity_of(m[n]) != 0 {
+            return false;
+        }
+        n += 1;
+    }
+    true
+}
+
+// Every entry halved.
+pub fn halve(m: [i64; 36]) -> [i64; 36]
+    ensures { λ r. ⌜ r ≡ listed (halved (entry m)) ⌝ }
+{
+    let mut out = [0i64; 36];
+    let mut n = 0usize;
+    while n < 36 {
+        out[n] = m[n] / 2;
+        n += 1;
+    }
+    out
+}
+
+// Whether rows i and j, where i is not the later one, have the product of orthogonal rows: norm of a row with itself, else 0.
+fn rows_orthogonal(m: [i64; 36], i: usize, j: usize, norm: i64) -> bool
+    requires { ⌜ (i < 6) × (j < 6) × Bounded (2 ^ 30) (entry m) ⌝ }
+    ensures { λ r. ⌜ r ≡ orthogonalAt norm (entry m) i j ⌝ }
+{
+    if j < i {
+        return true;
+    }
+    let product = row_product(m, i, j);
+    if i == j {
+        return product == norm;
+    }
+    product == 0
+}
+
+// Whether (k, m) is orthogonal.
+pub fn is_orthogonal(k: u8, m: [i64; 36]) -> bool
+    requires { ⌜ (k ≤ 60) × Bounded (2 ^ 30) (entry m) ⌝ }
+    ensures { λ r. ⌜ r ≡ isOrthogonal k (entry m) ⌝ }
+{
+    let norm = power_of_two(k);
+    let mut n = 0usize;
+    while n < 36 {
+        if !rows_orthogonal(m, n / 6, n % 6, norm) {
+            return false;
+        }
+        n += 1;
+    }
+    true
+}
+
+// Whether no entry's square exceeds 2 to the power k.
+pub fn is_within(k: u8, m: [i64; 36]) -> bool
+    requires { ⌜ (k ≤ 60) × Bounded (2 ^ 30) (entry m) ⌝ }
+    ensures { λ r. ⌜ r ≡ isWithin k (entry m) ⌝ }
+{
+    let limit = power_of_two(k);
+    let mut n = 0usize;
+    while n < 36 {
+        let x = m[n];
+        if limit < x * x {
+            return false;
+        }
+        n += 1;
+    }
+    true
+}
+
+// The odd entries of row r as bits, that of column 0 lowest.
+pub fn row_mask(m: [i64; 36], r: usize) -> u8
+    requires { ⌜ r < 6 ⌝ }
+    ensures { λ s. ⌜ s ≡ rowMask (entry m) r ⌝ }
+{
+    let mut mask = 0u8;
+    let mut c = 6usize;
+    while 0 < c {
+        c -= 1;
+        mask = parity_of(m[r * 6 + c]) + 2 * mask;
+    }
+    mask
+}
+
+// How many entries of row r are odd.
+pub fn row_weight(m: [i64; 36], r: usize) -> u32
+    requires { ⌜ r < 6 ⌝ }
+    ensures { λ s. ⌜ s ≡ rowWeight (entry m) r ⌝ }
+{
+    u8::count_ones(row_mask(m, r))
+}
+
+// (k, m) at its least exponent.
+pub fn least_form(k: u8, m: [i64; 36]) -> Least
+    ensures { λ r. ⌜ r ≡ leastForm k m ⌝ }
+{
+    let mut exponent = k;
+    let mut matrix = m;
+    while 2 <= exponent {
+        if !all_even(matrix) {
+            return Least { exponent, matrix };
+        }
+        let half = halve(matrix);
+        matrix = half;
+        exponent -= 2;
+    }
+    Least { exponent, matrix }
+}
+
+// Rows i and j replaced by half of their sum and half of their difference, row j less row i.
+pub fn half_sums(m: [i64; 36], i: usize, j: usize) -> [i64; 36]
+    requires { ⌜ (i < j) × (j < 6) × Bounded (2 ^ 30) (entry m) ⌝ }
+    ensures { λ r. ⌜ r ≡ listed (halfSums i j (entry m)) ⌝ }
+{
+    let mut out = m;
+    let mut c = 0usize;
+    while c < 6 {
+        let x = m[i * 6 + c];
+        let y = m[j * 6 + c];
+        out[i * 6 + c] = (x + y) / 2;
+        out[j * 6 + c] = (y - x) / 2;
+        c += 1;
+    }
+    out
+}
