@@ -1,0 +1,1 @@
+-- Theorems, a file for each subject; a file cites only those above it.
