@@ -1,6 +1,6 @@
 -- Ranges of indices: the sum over a range, a test at every index of it, the list and the number that a function of the index makes.
 -- Each recursion goes in the direction of the loop that computes it.
-use mathlib.Core.Bool.{Bool, true, _&&_}
+use mathlib.Core.Bool.{Bool, true, cond, _&&_}
 use mathlib.Core.List.{List, [], _∷_}
 use Prim.Native.Nat.{ℕ, zero, suc, _+_, _*_}
 use lib.IntN.{ℤ, pos, _+ℤ_}
@@ -18,6 +18,11 @@ everyFrom f a (suc k) = f a && everyFrom f (suc a) k
 -- whether f holds at each index below n
 abbrev pub every : ℕ → (ℕ → Bool) → Bool
 every n f = everyFrom f 0 n
+
+-- the first of the k indices a, a + 1, .. at which f holds; a + k where it holds at none of them
+unfoldable pub firstFrom : (ℕ → Bool) → ℕ → ℕ → ℕ
+firstFrom f a zero = a
+firstFrom f a (suc k) = cond (f a) a (firstFrom f (suc a) k)
 
 -- f a, f (a + 1), .., k of them
 unfoldable pub tabulate : {A : Type 0} → (ℕ → A) → ℕ → ℕ → List A

@@ -252,22 +252,40 @@ module _ (n i j : ℕ) (l : i < n) (m : j < n) (w : i ≢ j) where
   pub det-minus-plus : (M : Matrix) → det n (combined i j (pos 1) (negsuc 0) (pos 1) (pos 1) M) ≡ pos 2 *ℤ det n M
   det-minus-plus M = det-combined (pos 1) (negsuc 0) (pos 1) (pos 1) M
 
-  -- a row operation is the product with its matrix
-  pub combined-product : (a b c d : ℤ) (M : Matrix) → Same n (product n (combined i j a b c d δ) M) (combined i j a b c d M)
-  combined-product a b c d M r s hr hs = elim (ℕ-discrete r i) [
-    | yes e ↦ rw (e, replaced-same i (λ s. a *ℤ δ i s +ℤ b *ℤ δ j s) (replaced j (λ s. c *ℤ δ i s +ℤ d *ℤ δ j s) δ), replaced-same i (λ s. a *ℤ M i s +ℤ b *ℤ M j s) (replaced j (λ s. c *ℤ M i s +ℤ d *ℤ M j s) M)) (both a b)
-    | no f ↦ rw (replaced-other i (λ s. a *ℤ δ i s +ℤ b *ℤ δ j s) (replaced j (λ s. c *ℤ δ i s +ℤ d *ℤ δ j s) δ) r f, replaced-other i (λ s. a *ℤ M i s +ℤ b *ℤ M j s) (replaced j (λ s. c *ℤ M i s +ℤ d *ℤ M j s) M) r f)
-        (elim (ℕ-discrete r j) [
-          | yes e ↦ rw (e, replaced-same j (λ s. c *ℤ δ i s +ℤ d *ℤ δ j s) δ, replaced-same j (λ s. c *ℤ M i s +ℤ d *ℤ M j s) M) (both c d)
-          | no g ↦ rw (replaced-other j (λ s. c *ℤ δ i s +ℤ d *ℤ δ j s) δ r g, replaced-other j (λ s. c *ℤ M i s +ℤ d *ℤ M j s) M r g) (product-id-l n M r s hr hs)
-        ])
+  -- what the rows are
+  pub combined-i : (a b c d : ℤ) (M : Matrix) → combined i j a b c d M i ≡ λ s. a *ℤ M i s +ℤ b *ℤ M j s
+  combined-i a b c d M = replaced-same i (λ s. a *ℤ M i s +ℤ b *ℤ M j s) (replaced j (λ s. c *ℤ M i s +ℤ d *ℤ M j s) M)
+
+  pub combined-j : (a b c d : ℤ) (M : Matrix) → combined i j a b c d M j ≡ λ s. c *ℤ M i s +ℤ d *ℤ M j s
+  combined-j a b c d M = two-at-j (λ s. a *ℤ M i s +ℤ b *ℤ M j s) (λ s. c *ℤ M i s +ℤ d *ℤ M j s) M
+
+  pub combined-other : (a b c d : ℤ) (M : Matrix) (r : ℕ) → r ≢ i → r ≢ j → combined i j a b c d M r ≡ M r
+  combined-other a b c d M r p q =
+      replaced-other i (λ s. a *ℤ M i s +ℤ b *ℤ M j s) (replaced j (λ s. c *ℤ M i s +ℤ d *ℤ M j s) M) r p ∙ replaced-other j (λ s. c *ℤ M i s +ℤ d *ℤ M j s) M r q
+
+  pub combined-cong : (a b c d : ℤ) (A B : Matrix) → Same n A B → Same n (combined i j a b c d A) (combined i j a b c d B)
+  combined-cong a b c d A B h r s hr hs = elim (ℕ-discrete r i) [
+    | yes e ↦ rw (e, combined-i a b c d A, combined-i a b c d B, h i s l hs, h j s m hs)
+    | no p ↦ elim (ℕ-discrete r j) [
+      | yes e ↦ rw (e, combined-j a b c d A, combined-j a b c d B, h i s l hs, h j s m hs)
+      | no q ↦ rw (combined-other a b c d A r p q, combined-other a b c d B r p q) (h r s hr hs)
+    ]
+  ]
+
+  -- a row operation on a product is one on its left factor
+  pub combined-product : (a b c d : ℤ) (A M : Matrix) → Same n (product n (combined i j a b c d A) M) (combined i j a b c d (product n A M))
+  combined-product a b c d A M r s hr hs = elim (ℕ-discrete r i) [
+    | yes e ↦ rw (e, combined-i a b c d A, combined-i a b c d (product n A M)) (both a b)
+    | no p ↦ elim (ℕ-discrete r j) [
+      | yes e ↦ rw (e, combined-j a b c d A, combined-j a b c d (product n A M)) (both c d)
+      | no q ↦ rw (combined-other a b c d A r p q, combined-other a b c d (product n A M) r p q)
+    ]
   ]
     where
-      both : (x y : ℤ) → sum n (λ t. (x *ℤ δ i t +ℤ y *ℤ δ j t) *ℤ M t s) ≡ x *ℤ M i s +ℤ y *ℤ M j s
+      both : (x y : ℤ) → sum n (λ t. (x *ℤ A i t +ℤ y *ℤ A j t) *ℤ M t s) ≡ x *ℤ product n A M i s +ℤ y *ℤ product n A M j s
       both x y =
-          sum-cong (λ t u. ring (x ∷ δ i t ∷ y ∷ δ j t ∷ M t s ∷ []) ((var 0 :* var 1 :+ var 2 :* var 3) :* var 4) (var 0 :* (var 1 :* var 4) :+ var 2 :* (var 3 :* var 4)) refl)
-          ∙ sum-linear n x y (λ t. δ i t *ℤ M t s) (λ t. δ j t *ℤ M t s)
-          ∙ rw (product-id-l n M i s l hs, product-id-l n M j s m hs)
+          sum-cong (λ t u. ring (x ∷ A i t ∷ y ∷ A j t ∷ M t s ∷ []) ((var 0 :* var 1 :+ var 2 :* var 3) :* var 4) (var 0 :* (var 1 :* var 4) :+ var 2 :* (var 3 :* var 4)) refl)
+          ∙ sum-linear n x y (λ t. A i t *ℤ M t s) (λ t. A j t *ℤ M t s)
 
 -- ---- one entry in the first column
 
@@ -298,4 +316,5 @@ module _ (n i j : ℕ) (l : i < n) (m : j < n) (w : i ≢ j) where
 
   pub det-product : (a b c d : ℤ) (M : Matrix) → det n (product n (combined i j a b c d δ) M) ≡ det n (combined i j a b c d δ) *ℤ det n M
   det-product a b c d M =
-      det-cong n _ _ (combined-product n i j l m w a b c d M) ∙ det-combined n i j l m w a b c d M ∙ ap (λ x. x *ℤ det n M) (sym (det-operation a b c d))
+      det-cong n _ _ (combined-product n i j l m w a b c d δ M) ∙ det-combined n i j l m w a b c d (product n δ M)
+      ∙ ap (λ x. (a *ℤ d -ℤ b *ℤ c) *ℤ x) (det-cong n _ _ (product-id-l n M)) ∙ ap (λ x. x *ℤ det n M) (sym (det-operation a b c d))

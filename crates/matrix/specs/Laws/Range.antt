@@ -1,16 +1,17 @@
 -- Ranges of indices: what a loop that goes through one keeps, and what its result says at each index.
-use mathlib.Core.Path.{_≡_, refl, sym, ap, _∙_, subst}
-use mathlib.Core.Bool.{Bool, true, false, _&&_}
+use mathlib.Core.Path.{_≡_, refl, sym, ap, ap₂, _∙_, subst}
+use mathlib.Core.Bool.{Bool, true, false, cond, _&&_}
 use mathlib.Core.List.{List}
 use Prim.Native.Nat.{ℕ, zero, suc, _+_, _*_, _-_, _/_, _%_, _^_, _<_, _≤_}
 use native.Mathlib.Nat.{add-zero, add-suc, suc-add}
 use native.Mathlib.Omega.{arith}
 use native.Mathlib.Decide.{ℕ-discrete}
 use lib.Count.{ones, ones-step}
+use lib.Dec.{T}
 use lib.ListN.{length, getD, set, length-set}
 use lib.Pow.{shr-shr, pow-mono}
 use lib.Seq.{ext-getD, getD-set-same, getD-set-other}
-use Rattle.matrix.specs.Range.{everyFrom, every, tabulate, bits, total}
+use Rattle.matrix.specs.Range.{firstFrom, everyFrom, every, tabulate, bits, total}
 
 -- ---- a test at every index
 
@@ -19,19 +20,19 @@ both-true true true e = (refl, refl)
 both-true true false e = (refl, (cc))
 both-true false b e = (e, (cc))
 
-module _ (f : ℕ → Bool) (N n : ℕ) (h : n < N) where
-  rest : N - n ≡ suc (N - (n + 1))
-  rest = omega arith
+rest : (N n : ℕ) → n < N → N - n ≡ suc (N - (n + 1))
+rest N n h = omega arith
 
+module _ (f : ℕ → Bool) (N n : ℕ) (h : n < N) where
   -- a turn of a loop that goes on where the test holds
   pub every-next : f n ≡ true → everyFrom f n (N - n) ≡ everyFrom f (n + 1) (N - (n + 1))
   unfolding everyFrom
-  every-next e = let s : n + 1 ≡ suc n = omega arith in rw rest (rw e (ap (λ x. everyFrom f x (N - (n + 1))) (sym s)))
+  every-next e = let s : n + 1 ≡ suc n = omega arith in rw (rest N n h) (rw e (ap (λ x. everyFrom f x (N - (n + 1))) (sym s)))
 
   -- and returns where it fails
   pub every-stop : f n ≡ false → everyFrom f n (N - n) ≡ false
   unfolding everyFrom
-  every-stop e = rw rest (rw e)
+  every-stop e = rw (rest N n h) (rw e)
 
 sound-from : (f : ℕ → Bool) (a k i : ℕ) → everyFrom f a k ≡ true → a ≤ i → i < a + k → f i ≡ true
 unfolding everyFrom
@@ -50,6 +51,59 @@ every-sound n f e i h = sound-from f 0 n i e (omega arith) (omega arith)
 
 pub every-complete : (n : ℕ) (f : ℕ → Bool) → ((i : ℕ) → i < n → f i ≡ true) → every n f ≡ true
 every-complete n f h = complete-from f 0 n (λ i l u. h i (omega arith))
+
+-- ---- the first index at which a test holds
+
+module _ (f : ℕ → Bool) (N n : ℕ) (h : n < N) where
+  pub first-here : f n ≡ true → firstFrom f n (N - n) ≡ n
+  unfolding firstFrom
+  first-here e = rw (rest N n h) (rw e)
+
+  pub first-next : f n ≡ false → firstFrom f n (N - n) ≡ firstFrom f (n + 1) (N - (n + 1))
+  unfolding firstFrom
+  first-next e = let s : n + 1 ≡ suc n = omega arith in rw (rest N n h) (rw e (ap (λ x. firstFrom f x (N - (n + 1))) (sym s)))
+
+pub first-cong : (f g : ℕ → Bool) (a k : ℕ) → ((i : ℕ) → a ≤ i → i < a + k → f i ≡ g i) → firstFrom f a k ≡ firstFrom g a k
+unfolding firstFrom
+first-cong f g a zero h = refl
+first-cong f g a (suc k) h =
+    ap₂ (λ t n. cond t a n) (h a (omega arith) (omega arith)) (first-cong f g (suc a) k (λ i l u. h i (omega arith) (omega arith)))
+
+-- where it holds at some index, it holds at the first, and at none before
+pub record First (f : ℕ → Bool) (a b i : ℕ) : Type 0 where
+  pub holds : f i ≡ true
+  pub from : a ≤ i
+  pub below : i < b
+  pub earlier : (j : ℕ) → a ≤ j → j < i → f j ≡ false
+
+first-step : (f : ℕ → Bool) (a k : ℕ) → (f a ≡ false → First f (suc a) (suc a + k) (firstFrom f (suc a) k)) → First f a (a + suc k) (firstFrom f a (suc k))
+unfolding firstFrom
+first-step f a k r = go (f a) refl
+  where
+    go : (t : Bool) → f a ≡ t → First f a (a + suc k) (cond t a (firstFrom f (suc a) k))
+    go true p = record { holds = p; from = omega arith; below = omega arith; earlier = λ j x y. absurd (omega arith) }
+    go false p =
+        let s = r p in
+        record {
+          holds = s .holds;
+          from = let v = s .from in omega arith;
+          below = let v = s .below in omega arith;
+          earlier = λ j x y. elim (ℕ-discrete a j) [ yes z ↦ subst (λ w. f w ≡ false) z p | no z ↦ s .earlier j (omega arith) y ];
+        }
+
+true-false : true ≡ false → ⊥
+true-false z = subst T z tt
+
+pub first-found : (f : ℕ → Bool) (a k i : ℕ) → f i ≡ true → a ≤ i → i < a + k → First f a (a + k) (firstFrom f a k)
+first-found f a zero i e l u = absurd (omega arith)
+first-found f a (suc k) i e l u =
+    first-step f a k (λ p. let d : (a ≡ i → ⊥) = λ z. true-false (sym e ∙ ap f (sym z) ∙ p) in first-found f (suc a) k i e (omega arith) (omega arith))
+
+-- the search that ends in the range has found one
+pub first-in : (f : ℕ → Bool) (a k : ℕ) → firstFrom f a k < a + k → First f a (a + k) (firstFrom f a k)
+unfolding firstFrom
+first-in f a zero h = absurd (omega arith)
+first-in f a (suc k) h = first-step f a k (λ p. first-in f (suc a) k (let u : firstFrom f (suc a) k < a + suc k = rw p at h in omega arith))
 
 -- ---- a list that a function of the index makes
 

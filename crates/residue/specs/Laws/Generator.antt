@@ -1,0 +1,127 @@
+-- What a generator does to a matrix.
+use mathlib.Core.Path.{_≡_, refl, _∙_}
+use mathlib.Core.Logic.{_≢_}
+use mathlib.Core.Bool.{Bool, true, not, _&&_, _||_}
+use mathlib.Core.List.{[], _∷_}
+use Prim.Native.Nat.{ℕ, suc, _<_, _≤_}
+use native.Mathlib.Omega.{arith}
+use lib.Dec.{T, eqb, ltb, ltb→lt}
+use lib.IntN.{pos, negsuc, _*ℤ_}
+use Rattle.matrix.specs.Range.{sum, everyFrom, every}
+use Rattle.matrix.specs.Integer.{equals}
+use Rattle.matrix.specs.Matrix.{Matrix, Same, δ, replaced, product}
+use Rattle.matrix.specs.Determinant.{det}
+use Rattle.matrix.specs.Operator.{operator, Orthogonal}
+use Rattle.matrix.specs.Array.{everywhere, isOrthogonal}
+use Rattle.matrix.specs.Laws.Integer.{equals-eq}
+use Rattle.matrix.specs.Laws.Range.{every-sound, first-cong}
+use Rattle.matrix.specs.Laws.Ring.{var, num, _:*_, ring}
+use Rattle.matrix.specs.Laws.Matrix.{product-cong, product-id-l, same-refl}
+use Rattle.matrix.specs.Laws.Determinant.{combined-product, combined-cong, det-minus-plus}
+use Rattle.matrix.specs.Laws.Array.{everywhere-sound, orthogonal-sound}
+use Rattle.residue.specs.Generator.{table, place, low, high, generator, turnedPair, turned, fits, firstFit}
+use Rattle.residue.specs.Laws.Test.{left, right, T-true, true-T}
+use Rattle.residue.specs.Laws.Table.{numbered}
+
+-- ---- the rows of a pair
+
+abbrev pairs-right : ℕ → ℕ → Bool
+pairs-right g p = ltb (low g p) (high g p) && ltb (high g p) 6
+
+abbrev apart : ℕ → ℕ → ℕ → Bool
+apart g p q = eqb p q || (not (eqb (low g p) (low g q)) && (not (eqb (low g p) (high g q)) && (not (eqb (high g p) (low g q)) && not (eqb (high g p) (high g q)))))
+
+all-right : every 15 (λ a. every 3 (pairs-right (suc a)) && every 3 (λ p. every 3 (apart (suc a) p))) ≡ true
+unfolding place table everyFrom
+all-right = refl
+
+module _ (g : ℕ) (l : 1 ≤ g) (u : g ≤ 15) where
+  right-of : T (every 3 (pairs-right g) && every 3 (λ p. every 3 (apart g p)))
+  right-of = numbered (λ g. every 3 (pairs-right g) && every 3 (λ p. every 3 (apart g p))) 15 all-right g l u
+
+  pair-right : (p : ℕ) → p < 3 → T (pairs-right g p)
+  pair-right p h = true-T (every-sound 3 (pairs-right g) (T-true _ (left (every 3 (pairs-right g)) _ right-of)) p h)
+
+  pub low-high : (p : ℕ) → p < 3 → low g p < high g p
+  low-high p h = ltb→lt _ _ (left (ltb (low g p) (high g p)) _ (pair-right p h))
+
+  pub high-six : (p : ℕ) → p < 3 → high g p < 6
+  high-six p h = ltb→lt _ _ (right (ltb (low g p) (high g p)) _ (pair-right p h))
+
+  pub low-six : (p : ℕ) → p < 3 → low g p < 6
+  low-six p h = let a = low-high p h in let b = high-six p h in omega arith
+
+  pub low-not-high : (p : ℕ) → p < 3 → low g p ≢ high g p
+  low-not-high p h = let a = low-high p h in λ e. omega arith
+
+  -- ---- the product with the matrix is the row operation
+
+  pub turned-pair-cong : (p : ℕ) → p < 3 → (A B : Matrix) → Same 6 A B → Same 6 (turnedPair g p A) (turnedPair g p B)
+  turned-pair-cong p h A B = combined-cong 6 (low g p) (high g p) (low-six p h) (high-six p h) (low-not-high p h) (pos 1) (negsuc 0) (pos 1) (pos 1) A B
+
+  turned-pair-product : (p : ℕ) → p < 3 → (A M : Matrix) → Same 6 (product 6 (turnedPair g p A) M) (turnedPair g p (product 6 A M))
+  turned-pair-product p h A M = combined-product 6 (low g p) (high g p) (low-six p h) (high-six p h) (low-not-high p h) (pos 1) (negsuc 0) (pos 1) (pos 1) A M
+
+generator-turned : every 15 (λ a. everywhere (λ r c. equals (generator (suc a) r c) (turned (suc a) δ r c))) ≡ true
+unfolding place table everyFrom generator sum δ replaced
+generator-turned = refl
+
+generators-orthogonal : every 15 (λ a. isOrthogonal 1 (generator (suc a))) ≡ true
+unfolding place table everyFrom generator sum δ isOrthogonal
+generators-orthogonal = refl
+
+module _ (g : ℕ) (l : 1 ≤ g) (u : g ≤ 15) where
+  pub generator-orthogonal : Orthogonal (operator 1 (generator g))
+  generator-orthogonal = orthogonal-sound 1 (generator g) (T-true _ (numbered (λ g. isOrthogonal 1 (generator g)) 15 generators-orthogonal g l u))
+
+  generator-is : Same 6 (generator g) (turned g δ)
+  generator-is r c hr hc =
+      equals-eq _ _
+      (everywhere-sound (λ r c. equals (generator g r c) (turned g δ r c))
+      (T-true _ (numbered (λ g. everywhere (λ r c. equals (generator g r c) (turned g δ r c))) 15 generator-turned g l u)) r c hr hc)
+
+  -- the generator times M
+  pub generator-product : (M : Matrix) → Same 6 (product 6 (generator g) M) (turned g M)
+  generator-product M r c hr hc =
+      product-cong generator-is (same-refl 6 M) r c hr hc
+      ∙ turned-pair-product g l u 2 (omega arith) (turnedPair g 1 (turnedPair g 0 δ)) M r c hr hc
+      ∙ turned-pair-cong g l u 2 (omega arith) _ _ inner r c hr hc
+    where
+      inner : Same 6 (product 6 (turnedPair g 1 (turnedPair g 0 δ)) M) (turnedPair g 1 (turnedPair g 0 M))
+      inner r c hr hc =
+          turned-pair-product g l u 1 (omega arith) (turnedPair g 0 δ) M r c hr hc
+          ∙ turned-pair-cong g l u 1 (omega arith) _ _
+          (λ r c hr hc. turned-pair-product g l u 0 (omega arith) δ M r c hr hc ∙ turned-pair-cong g l u 0 (omega arith) _ _ (product-id-l 6 M) r c hr hc)
+          r c hr hc
+
+  det-pair : (p : ℕ) → p < 3 → (M : Matrix) → det 6 (turnedPair g p M) ≡ pos 2 *ℤ det 6 M
+  det-pair p h M = det-minus-plus 6 (low g p) (high g p) (low-six g l u p h) (high-six g l u p h) (low-not-high g l u p h) M
+
+  -- and its determinant
+  pub turned-det : (M : Matrix) → det 6 (turned g M) ≡ pos 8 *ℤ det 6 M
+  turned-det M =
+      rw (
+        det-pair 2 (omega arith) (turnedPair g 1 (turnedPair g 0 M)),
+        det-pair 1 (omega arith) (turnedPair g 0 M),
+        det-pair 0 (omega arith) M,
+      )
+      (ring (det 6 M ∷ []) (num (pos 2) :* (num (pos 2) :* (num (pos 2) :* var 0))) (num (pos 8) :* var 0) refl)
+
+-- ---- the choice depends on the six rows alone
+
+module _ (f f′ : ℕ → ℕ) (h : (r : ℕ) → r < 6 → f r ≡ f′ r) where
+  fits-cong : (g : ℕ) → 1 ≤ g → g ≤ 15 → fits f g ≡ fits f′ g
+  unfolding fits everyFrom
+  fits-cong g l u =
+      rw (
+        h (low g 0) (low-six g l u 0 (omega arith)),
+        h (high g 0) (high-six g l u 0 (omega arith)),
+        h (low g 1) (low-six g l u 1 (omega arith)),
+        h (high g 1) (high-six g l u 1 (omega arith)),
+        h (low g 2) (low-six g l u 2 (omega arith)),
+        h (high g 2) (high-six g l u 2 (omega arith)),
+      )
+
+  pub first-fit-cong : firstFit f ≡ firstFit f′
+  unfolding firstFit
+  first-fit-cong = first-cong (fits f) (fits f′) 1 15 (λ g l u. fits-cong g l (omega arith))

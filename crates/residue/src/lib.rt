@@ -1,0 +1,170 @@
+// The fifteen generators, and which of them a matrix's odd entries call for. The contracts cite specs/Generator.antt.
+
+ghost use mathlib.Core.Path.{_≡_};
+ghost use Prim.Native.Nat.{_<_, _≤_};
+ghost use Rattle.matrix.specs.Range.{tabulate};
+ghost use Rattle.matrix.specs.Matrix.{entry};
+ghost use Rattle.matrix.specs.Array.{rowMask};
+ghost use Rattle.residue.specs.Generator.{low, high, fits, firstFit};
+ghost use Rattle.residue.specs.Masks.{maskAt};
+
+// The three pairs of each generator, in the order of their numbers; rows are counted from 0.
+const PAIRS: [usize; 90] = [
+    0,
+    1,
+    2,
+    3,
+    4,
+    5, //
+    0,
+    1,
+    2,
+    4,
+    3,
+    5, //
+    0,
+    1,
+    2,
+    5,
+    3,
+    4, //
+    0,
+    2,
+    1,
+    3,
+    4,
+    5, //
+    0,
+    2,
+    1,
+    4,
+    3,
+    5, //
+    0,
+    2,
+    1,
+    5,
+    3,
+    4, //
+    0,
+    3,
+    1,
+    2,
+    4,
+    5, //
+    0,
+    3,
+    1,
+    4,
+    2,
+    5, //
+    0,
+    3,
+    1,
+    5,
+    2,
+    4, //
+    0,
+    4,
+    1,
+    2,
+    3,
+    5, //
+    0,
+    4,
+    1,
+    3,
+    2,
+    5, //
+    0,
+    4,
+    1,
+    5,
+    2,
+    3, //
+    0,
+    5,
+    1,
+    2,
+    3,
+    4, //
+    0,
+    5,
+    1,
+    3,
+    2,
+    4, //
+    0,
+    5,
+    1,
+    4,
+    2,
+    3, //
+];
+
+// The first row of pair p of generator g.
+pub fn low_row(g: usize, p: usize) -> usize
+    requires { ⌜ (1 ≤ g) × (g ≤ 15) × (p < 3) ⌝ }
+    ensures { λ r. ⌜ r ≡ low g p ⌝ }
+{
+    PAIRS[(g - 1) * 6 + p * 2]
+}
+
+// The second row of pair p of generator g.
+pub fn high_row(g: usize, p: usize) -> usize
+    requires { ⌜ (1 ≤ g) × (g ≤ 15) × (p < 3) ⌝ }
+    ensures { λ r. ⌜ r ≡ high g p ⌝ }
+{
+    PAIRS[(g - 1) * 6 + p * 2 + 1]
+}
+
+// The masks of the six rows.
+pub fn row_masks(m: [i64; 36]) -> [u8; 6]
+    ensures { λ r. ⌜ r ≡ tabulate (rowMask (entry m)) 0 6 ⌝ }
+{
+    let mut masks = [0u8; 6];
+    let mut r = 0usize;
+    while r < 6 {
+        masks[r] = matrix::row_mask(m, r);
+        r += 1;
+    }
+    masks
+}
+
+// Whether the rows of each of generator g's pairs have equal masks.
+pub fn generator_fits(masks: [u8; 6], g: usize) -> bool
+    requires { ⌜ (1 ≤ g) × (g ≤ 15) ⌝ }
+    ensures { λ r. ⌜ r ≡ fits (maskAt masks) g ⌝ }
+{
+    let mut p = 0usize;
+    while p < 3 {
+        let i = low_row(g, p);
+        let j = high_row(g, p);
+        if masks[i] != masks[j] {
+            return false;
+        }
+        p += 1;
+    }
+    true
+}
+
+// The lowest-numbered generator that fits, or 16.
+fn first_that_fits(masks: [u8; 6]) -> usize
+    ensures { λ r. ⌜ r ≡ firstFit (maskAt masks) ⌝ }
+{
+    let mut g = 1usize;
+    while g < 16 {
+        if generator_fits(masks, g) {
+            return g;
+        }
+        g += 1;
+    }
+    g
+}
+
+// The lowest-numbered generator whose every pair lies inside a group of rows, or 16.
+pub fn first_fit(m: [i64; 36]) -> usize
+    ensures { λ r. ⌜ r ≡ firstFit (rowMask (entry m)) ⌝ }
+{
+    first_that_fits(row_masks(m))
+}
