@@ -1,12 +1,17 @@
 -- Signed permutations by their columns (document 01, "Sheet"): "six bytes for columns 1 to 6 of the Clifford: r for +1 in row r, 128 + r
 -- for −1". Rows and columns are counted from 0 here, so byte r + 1 or r + 129 stands for row r.
-use mathlib.Core.Bool.{Bool, true, false, not, cond, _&&_, _||_}
+use mathlib.Core.Bool.{Bool, true, not, cond, _&&_, _||_}
 use mathlib.Core.List.{List, [], _∷_, map}
-use Prim.Native.Nat.{ℕ, suc, _+_, _-_, _%_}
+use mathlib.Core.Logic.{_≢_, _⊎_}
+use mathlib.Core.Path.{_≡_}
+use Prim.Native.Nat.{ℕ, _+_, _-_, _%_, _<_}
 use lib.Dec.{eqb, leb, ltb}
 use lib.IntN.{ℤ, pos, negsuc}
 use lib.ListN.{length, getD}
+use Rattle.matrix.specs.Range.{firstFrom, tabulate}
+use Rattle.matrix.specs.Integer.{equals}
 use Rattle.matrix.specs.Matrix.{Matrix}
+use Rattle.matrix.specs.Operator.{Operator, Proper}
 
 -- the entry in row r of the column with byte b
 abbrev pub columnEntry : ℕ → ℕ → ℤ
@@ -61,3 +66,25 @@ areColumnBytes (b ∷ bs) = isColumnByte b && areColumnBytes bs
 -- six columns of a signed permutation: "one entry of +1 or −1 in each row and column"
 unfoldable pub arePermutation : List ℕ → Bool
 arePermutation bs = eqb (length bs) 6 && (areColumnBytes bs && different (map rowOf bs))
+
+-- the byte of column c of a matrix: of its first entry that is not 0
+abbrev pub columnRow : Matrix → ℕ → ℕ
+columnRow M c = firstFrom (λ r. not (equals (M r c) (pos 0))) 0 6
+
+unfoldable pub columnByte : Matrix → ℕ → ℕ
+columnByte M c = columnRow M c + cond (equals (M (columnRow M c) c) (pos 1)) 1 129
+
+-- "six bytes for columns 1 to 6"
+abbrev pub columnBytes : Matrix → List ℕ
+columnBytes M = tabulate (columnByte M) 0 6
+
+-- one of the six numbers is +1 or −1, the others are 0
+abbrev pub OneUnit : (ℕ → ℤ) → Type 0
+OneUnit v = (c : ℕ) × (c < 6) × ((v c ≡ pos 1) ⊎ (v c ≡ negsuc 0)) × ((d : ℕ) → d < 6 → d ≢ c → v d ≡ pos 0)
+
+-- "A Clifford is a proper operator whose matrix has one entry of +1 or −1 in each row and column, with exponent 0"
+pub record Clifford (A : Operator) : Type 0 where
+  pub exponent-zero : A .exponent ≡ 0
+  pub row : (r : ℕ) → r < 6 → OneUnit (A .matrix r)
+  pub column : (c : ℕ) → c < 6 → OneUnit (λ r. A .matrix r c)
+  pub proper : Proper A

@@ -1,4 +1,5 @@
 -- Theorems, a file for each subject; a file cites only those above it.
+pub mod Test
 pub mod Integer
 pub mod Ring
 pub mod Parity

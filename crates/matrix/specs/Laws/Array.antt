@@ -8,22 +8,24 @@ use native.Mathlib.Omega.{arith}
 use native.Mathlib.Decide.{decLt, ℕ-discrete}
 use lib.Count.{ones}
 use lib.Dec.{T, eqb, ltb}
-use lib.IntN.{ℤ, pos, negsuc, natAbs, _+ℤ_, _-ℤ_, _*ℤ_, *ℤ-comm}
+use lib.IntN.{ℤ, pos, negsuc, natAbs, _+ℤ_, _-ℤ_, _*ℤ_, *ℤ-comm, *ℤ-zero}
 use lib.ListN.{length, getD, set}
 use lib.Seq.{getD-set-same, getD-set-other}
 use lib.Signed.{leZ}
 use borrow.Author.Tests.{eq-eqb, eqb-true, le-leb, leb-true, le-ltb}
 use Rattle.matrix.specs.declared.Least.{Least}
+use Rattle.matrix.specs.Range.{sum, total}
 use Rattle.matrix.specs.Integer.{parity, half, equals}
-use Rattle.matrix.specs.Matrix.{Matrix, Same, δ, replaced, combined, rowProduct, entry, listed}
+use Rattle.matrix.specs.Matrix.{Matrix, Same, δ, transpose, replaced, combined, rowProduct, entry, listed}
 use Rattle.matrix.specs.Determinant.{det}
 use Rattle.matrix.specs.Operator.{Operator, operator, SameOperator, Orthogonal, LeastExponent, AllEven, Reduced}
 use Rattle.matrix.specs.Array.{Bounded, everywhere, orthogonalAt, isOrthogonal, isWithin, rowMask, rowWeight, allEven, halved, halfSums, choose, leastForm}
-use Rattle.matrix.specs.Laws.Integer.{equals-eq, equals-yes, square-size, natAbs-add-le, natAbs-minus-le}
+use Rattle.matrix.specs.Laws.Integer.{*ℤ-unit-r, equals-eq, equals-yes, square-size, natAbs-add-le, natAbs-minus-le}
 use Rattle.matrix.specs.Laws.Parity.{half-even, half-sum, half-minus, even-parity, parity-even, parity-lt, natAbs-half}
 use Rattle.matrix.specs.Laws.Range.{every-sound, every-complete, length-tabulate, getD-tabulate, tabulate-is, bits-lt, bit-at, ones-bits}
 use Rattle.matrix.specs.Laws.Ring.{var, num, _:+_, _:-_, _:*_, _:=_, _of_, times-by}
-use Rattle.matrix.specs.Laws.Sum.{sum-cong, δ-sym}
+use Rattle.matrix.specs.Laws.Sum.{sum-cong, δ-same, δ-other, δ-sym}
+use Rattle.matrix.specs.Laws.Matrix.{orthogonal-columns}
 use Rattle.matrix.specs.Laws.Determinant.{replaced-same, replaced-other, det-cong, det-minus-plus}
 use Rattle.matrix.specs.Laws.Operator.{same-operator-refl, same-operator-trans, same-orthogonal, reduced-least, halved-same, entry-square, entry-bound}
 
@@ -103,6 +105,30 @@ unfolding isOrthogonal
 orthogonal-complete k M o =
     everywhere-complete (orthogonalAt (pos (2 ^ k)) M)
     (λ i j hi hj. or-true (ltb j i) (equals (rowProduct 6 M i j) (pos (2 ^ k) *ℤ δ i j)) (equals-yes (o .rows i j hi hj)))
+
+-- the square norm of six numbers, as a sum of natural numbers
+pub norm-total : (v : ℕ → ℤ) (n : ℕ) → sum 6 (λ c. v c *ℤ v c) ≡ pos n → total (λ c. natAbs (v c) * natAbs (v c)) 0 6 ≡ n
+unfolding sum total
+norm-total v n e = rearranged (q 0) (q 1) (q 2) (q 3) (q 4) (q 5) ∙ ap natAbs (here ∙ e)
+  where
+    q : ℕ → ℕ
+    q c = natAbs (v c) * natAbs (v c)
+
+    rearranged : (a b c d e f : ℕ) → a + (b + (c + (d + (e + (f + 0))))) ≡ 0 + a + b + c + d + e + f
+    rearranged a b c d e f = omega arith
+
+    here : pos (0 + q 0 + q 1 + q 2 + q 3 + q 4 + q 5) ≡ sum 6 (λ c. v c *ℤ v c)
+    here = rw (square-size (v 0), square-size (v 1), square-size (v 2), square-size (v 3), square-size (v 4), square-size (v 5))
+
+-- the rows and the columns of an orthogonal operator
+pub row-norm : (k : ℕ) (M : Matrix) → Orthogonal (operator k M) → (i : ℕ) → i < 6 → sum 6 (λ c. M i c *ℤ M i c) ≡ pos (2 ^ k)
+row-norm k M o i h = o .rows i i h h ∙ ap (λ x. pos (2 ^ k) *ℤ x) (δ-same i) ∙ *ℤ-unit-r (pos (2 ^ k))
+
+pub row-other : (k : ℕ) (M : Matrix) → Orthogonal (operator k M) → (i j : ℕ) → i < 6 → j < 6 → i ≢ j → rowProduct 6 M i j ≡ pos 0
+row-other k M o i j hi hj w = o .rows i j hi hj ∙ ap (λ x. pos (2 ^ k) *ℤ x) (δ-other i j w) ∙ *ℤ-zero (pos (2 ^ k))
+
+pub columns-of : (k : ℕ) (M : Matrix) → Orthogonal (operator k M) → Orthogonal (operator k (transpose M))
+columns-of k M o = record { rows = orthogonal-columns 6 (pos (2 ^ k)) M (o .rows) }
 
 -- ---- squares within 2 to the power k
 

@@ -20,7 +20,7 @@ use Rattle.matrix.specs.Laws.Matrix.{product-id-l}
 -- ---- the indices that are left when one is taken out
 
 -- as omega reads it
-skip-is : (i r : ℕ) → skip i r ≡ r + (1 - (i - r))
+pub skip-is : (i r : ℕ) → skip i r ≡ r + (1 - (i - r))
 unfolding skip
 skip-is i r = go (ltb r i) (λ t. ltb→lt r i t) (λ t. nltb→le r i t)
   where

@@ -20,7 +20,7 @@ use Rattle.matrix.specs.Laws.Matrix.{product-cong, product-id-l, same-refl}
 use Rattle.matrix.specs.Laws.Determinant.{combined-product, combined-cong, det-minus-plus}
 use Rattle.matrix.specs.Laws.Array.{everywhere-sound, orthogonal-sound}
 use Rattle.residue.specs.Generator.{table, place, low, high, generator, turnedPair, turned, fits, firstFit}
-use Rattle.residue.specs.Laws.Test.{left, right, T-true, true-T}
+use Rattle.matrix.specs.Laws.Test.{left, right, T-true, true-T}
 use Rattle.residue.specs.Laws.Table.{numbered}
 
 -- ---- the rows of a pair

@@ -10,7 +10,7 @@ use lib.Dec.{T, eqb, ltb, lit<}
 use Rattle.matrix.specs.Range.{everyFrom, every, firstFrom}
 use Rattle.matrix.specs.Laws.Range.{every-sound, every-complete}
 use Rattle.residue.specs.Generator.{table, place, low, high}
-use Rattle.residue.specs.Laws.Test.{both, left, right, or-elim, imp, imp-sound, T-true, true-T}
+use Rattle.matrix.specs.Laws.Test.{both, left, right, or-elim, imp, imp-sound, T-true, true-T}
 
 -- ---- six bits
 

@@ -19,10 +19,9 @@ use Rattle.matrix.specs.Laws.Integer.{square-size, *ℤ-unit-r}
 use Rattle.matrix.specs.Laws.Parity.{parity-add, parity-mul, parity-lt, parity-even}
 use Rattle.matrix.specs.Laws.Sum.{δ-same, δ-other}
 use Rattle.matrix.specs.Laws.Range.{First, first-found, first-in, every-sound, every-complete}
-use Rattle.matrix.specs.Laws.Matrix.{orthogonal-columns}
-use Rattle.matrix.specs.Laws.Array.{equal-masks}
+use Rattle.matrix.specs.Laws.Array.{equal-masks, norm-total, row-norm, row-other, columns-of}
 use Rattle.residue.specs.Generator.{low, high, fits, firstFit, groupSize, inGroupsOf}
-use Rattle.residue.specs.Laws.Test.{left, right, or-elim, T-true, true-T}
+use Rattle.matrix.specs.Laws.Test.{left, right, or-elim, T-true, true-T}
 use Rattle.residue.specs.Laws.Generator.{low-six, high-six}
 use Rattle.residue.specs.Laws.Grouping.{Row, row, bit, weight, meet, sameRow, same-row-sound, same-row-refl, column, nth, agrees, size, rowsInGroupsOf, grouped, paired, sixOf, columnOf, noneOrFour, notZero, two, meetInTwoOrNone, grouping-four, grouping-two}
 
@@ -49,14 +48,6 @@ weight-odd v = rw (bit-odd (v 0), bit-odd (v 1), bit-odd (v 2), bit-odd (v 3), b
 abbrev square : (ℕ → ℤ) → ℕ → ℕ
 square v c = natAbs (v c) * natAbs (v c)
 
--- a square norm, as a sum of natural numbers
-norm-is : (v : ℕ → ℤ) (n : ℕ) → sum 6 (λ c. v c *ℤ v c) ≡ pos n → square v 0 + square v 1 + square v 2 + square v 3 + square v 4 + square v 5 ≡ n
-unfolding sum
-norm-is v n e =
-    let z : pos (0 + square v 0 + square v 1 + square v 2 + square v 3 + square v 4 + square v 5) ≡ pos n = sym (rw (square-size (v 0), square-size (v 1), square-size (v 2), square-size (v 3), square-size (v 4), square-size (v 5))) ∙ e in
-    let q : 0 + square v 0 + square v 1 + square v 2 + square v 3 + square v 4 + square v 5 ≡ n = ap natAbs z in
-    omega arith
-
 square-mod-four : (n : ℕ) → (n * n) % 4 ≡ n % 2
 square-mod-four zero = refl
 square-mod-four (suc zero) = refl
@@ -70,10 +61,16 @@ leaves z = omega (arith, square-mod-four (natAbs z))
 leaves-sum : (a b p q : ℕ) → a % 4 ≡ p % 4 → b % 4 ≡ q % 4 → (a + b) % 4 ≡ (p + q) % 4
 leaves-sum a b p q e f = omega arith
 
-norm-leaves : (v : ℕ → ℤ) → (square v 0 + square v 1 + square v 2 + square v 3 + square v 4 + square v 5) % 4 ≡ weight (oddBits v) % 4
+norm-leaves : (v : ℕ → ℤ) → total (square v) 0 6 % 4 ≡ weight (oddBits v) % 4
+unfolding total
 norm-leaves v =
     rw (weight-odd v)
-    (leaves-sum _ _ _ _ (leaves-sum _ _ _ _ (leaves-sum _ _ _ _ (leaves-sum _ _ _ _ (leaves-sum _ _ _ _ (leaves (v 0)) (leaves (v 1))) (leaves (v 2))) (leaves (v 3))) (leaves (v 4))) (leaves (v 5)))
+    (leaves-sum _ _ _ _ (leaves (v 0))
+    (leaves-sum _ _ _ _ (leaves (v 1)) (leaves-sum _ _ _ _ (leaves (v 2)) (leaves-sum _ _ _ _ (leaves (v 3)) (leaves-sum _ _ _ _ (leaves (v 4)) (leaves-sum _ _ _ _ (leaves (v 5)) refl)))))
+    ∙ ap (λ n. n % 4) (rearranged (parity (v 0)) (parity (v 1)) (parity (v 2)) (parity (v 3)) (parity (v 4)) (parity (v 5))))
+  where
+    rearranged : (a b c d e f : ℕ) → a + (b + (c + (d + (e + (f + 0))))) ≡ a + b + c + d + e + f
+    rearranged a b c d e f = omega arith
 
 weight-le : (r : Row) → weight r ≤ 6
 weight-le (row a b c d e f) = let p = le a in let q = le b in let s = le c in let t = le d in let u = le e in let w = le f in omega arith
@@ -85,7 +82,7 @@ weight-le (row a b c d e f) = let p = le a in let q = le b in let s = le c in le
 -- "For k of at least 2 the odd entries of a row, as six bits, number none or four"
 none-or-four : (k : ℕ) (v : ℕ → ℤ) → sum 6 (λ c. v c *ℤ v c) ≡ pos (2 ^ suc (suc k)) → T (noneOrFour (oddBits v))
 none-or-four k v e =
-    last (weight (oddBits v)) (sym (norm-leaves v) ∙ ap (λ n. n % 4) (norm-is v (2 ^ suc (suc k)) e) ∙ four (2 ^ k)) (weight-le (oddBits v))
+    last (weight (oddBits v)) (sym (norm-leaves v) ∙ ap (λ n. n % 4) (norm-total v (2 ^ suc (suc k)) e) ∙ four (2 ^ k)) (weight-le (oddBits v))
   where
     four : (n : ℕ) → 2 ^ suc (suc k) % 4 ≡ 0
     four n = omega arith
@@ -109,12 +106,13 @@ small-square z h = go (natAbs z) h
     go (suc (suc n)) h = absurd (omega arith)
 
 only-two : (v : ℕ → ℤ) → sum 6 (λ c. v c *ℤ v c) ≡ pos 2 → weight (oddBits v) ≡ 2
+unfolding total
 only-two v e =
     weight-odd v
-    ∙ rw (sym (unit 0 (omega (arith, n))), sym (unit 1 (omega (arith, n))), sym (unit 2 (omega (arith, n))), sym (unit 3 (omega (arith, n))), sym (unit 4 (omega (arith, n))), sym (unit 5 (omega (arith, n)))) n
+    ∙ rw (sym (unit 0 (omega (arith, n))), sym (unit 1 (omega (arith, n))), sym (unit 2 (omega (arith, n))), sym (unit 3 (omega (arith, n))), sym (unit 4 (omega (arith, n))), sym (unit 5 (omega (arith, n)))) (omega (arith, n))
   where
-    n : square v 0 + square v 1 + square v 2 + square v 3 + square v 4 + square v 5 ≡ 2
-    n = norm-is v 2 e
+    n : square v 0 + (square v 1 + (square v 2 + (square v 3 + (square v 4 + (square v 5 + 0))))) ≡ 2
+    n = norm-total v 2 e
 
     unit : (c : ℕ) → square v c ≤ 2 → square v c ≡ parity (v c)
     unit c h = small-square (v c) h
@@ -260,14 +258,11 @@ grouped-of M t =
       fit = first-found (fits (rowMask M)) 1 15 (firstFrom (agrees m) 1 15) (fits-agrees M _ (found .from) (omega arith) (found .holds)) (found .from) (omega arith);
     }
 
-row-norm : (k : ℕ) (M : Matrix) → Orthogonal (operator k M) → (i : ℕ) → i < 6 → sum 6 (λ c. M i c *ℤ M i c) ≡ pos (2 ^ k)
-row-norm k M o i h = o .rows i i h h ∙ ap (λ x. pos (2 ^ k) *ℤ x) (δ-same i) ∙ *ℤ-unit-r (pos (2 ^ k))
-
 column-norm : (k : ℕ) (M : Matrix) → Orthogonal (operator k M) → (c : ℕ) → c < 6 → sum 6 (λ r. M r c *ℤ M r c) ≡ pos (2 ^ k)
-column-norm k M o c h = row-norm k (transpose M) (record { rows = orthogonal-columns 6 (pos (2 ^ k)) M (o .rows) }) c h
+column-norm k M o c h = row-norm k (transpose M) (columns-of k M o) c h
 
 row-meets : (k : ℕ) (M : Matrix) → Orthogonal (operator k M) → (i j : ℕ) → i < j → j < 6 → weight (meet (oddRow M i) (oddRow M j)) % 2 ≡ 0
-row-meets k M o i j l h = meets-evenly (M i) (M j) (o .rows i j (omega arith) h ∙ ap (λ x. pos (2 ^ k) *ℤ x) (δ-other i j (omega arith)) ∙ *ℤ-zero (pos (2 ^ k)))
+row-meets k M o i j l h = meets-evenly (M i) (M j) (row-other k M o i j (omega arith) h (omega arith))
 
 weight-is : (M : Matrix) (i : ℕ) → weight (oddRow M i) ≡ rowWeight M i
 unfolding rowWeight total

@@ -9,7 +9,7 @@ use lib.Dec.{T, eqb, ltb, eqb→eq, eqb-refl, ltb→lt, lt→ltb}
 use Rattle.matrix.specs.Range.{everyFrom, every, firstFrom}
 use Rattle.matrix.specs.Laws.Range.{every-sound, first-in}
 use Rattle.residue.specs.Generator.{table, place}
-use Rattle.residue.specs.Laws.Test.{both, left, right, imp, imp-sound, T-true, true-T}
+use Rattle.matrix.specs.Laws.Test.{both, left, right, imp, imp-sound, T-true, true-T}
 
 -- the six rows of generator g, counted from 1
 abbrev pub rowsOf : ℕ → List ℕ
