@@ -1,11 +1,11 @@
 -- What a generator does to a matrix.
-use mathlib.Core.Path.{_≡_, refl, _∙_}
+use mathlib.Core.Path.{_≡_, refl, subst, _∙_}
 use mathlib.Core.Logic.{_≢_}
 use mathlib.Core.Bool.{Bool, true, not, _&&_, _||_}
 use mathlib.Core.List.{[], _∷_}
 use Prim.Native.Nat.{ℕ, suc, _<_, _≤_}
 use native.Mathlib.Omega.{arith}
-use lib.Dec.{T, eqb, ltb, ltb→lt}
+use lib.Dec.{T, eqb, ltb, eqb→eq, eqb-refl, ltb→lt, T-not}
 use lib.IntN.{pos, negsuc, _*ℤ_}
 use Rattle.matrix.specs.Range.{sum, everyFrom, every}
 use Rattle.matrix.specs.Integer.{equals}
@@ -20,7 +20,7 @@ use Rattle.matrix.specs.Laws.Matrix.{product-cong, product-id-l, same-refl}
 use Rattle.matrix.specs.Laws.Determinant.{combined-product, combined-cong, det-minus-plus}
 use Rattle.matrix.specs.Laws.Array.{everywhere-sound, orthogonal-sound}
 use Rattle.residue.specs.Generator.{table, place, low, high, generator, turnedPair, turned, fits, firstFit}
-use Rattle.matrix.specs.Laws.Test.{left, right, T-true, true-T}
+use Rattle.matrix.specs.Laws.Test.{left, right, or-elim, T-true, true-T}
 use Rattle.residue.specs.Laws.Table.{numbered}
 
 -- ---- the rows of a pair
@@ -53,6 +53,19 @@ module _ (g : ℕ) (l : 1 ≤ g) (u : g ≤ 15) where
 
   pub low-not-high : (p : ℕ) → p < 3 → low g p ≢ high g p
   low-not-high p h = let a = low-high p h in λ e. omega arith
+
+  -- no row stands in two pairs
+  pub pairs-apart : (p q : ℕ) → p < 3 → q < 3 → p ≢ q → (low g p ≢ low g q) × (low g p ≢ high g q) × (high g p ≢ low g q) × (high g p ≢ high g q)
+  pairs-apart p q hp hq w =
+      or-elim (eqb p q) _ _
+      (true-T (every-sound 3 (apart g p) (every-sound 3 (λ p. every 3 (apart g p)) (T-true _ (right (every 3 (pairs-right g)) _ right-of)) p hp) q hq))
+      (λ t. absurd (w (eqb→eq p q t)))
+      (λ t. let t1 = right (not (eqb (low g p) (low g q))) _ t in
+      let t2 = right (not (eqb (low g p) (high g q))) _ t1 in
+      (differ (left (not (eqb (low g p) (low g q))) _ t), differ (left (not (eqb (low g p) (high g q))) _ t1), differ (left (not (eqb (high g p) (low g q))) _ t2), differ (right (not (eqb (high g p) (low g q))) _ t2)))
+    where
+      differ : {a b : ℕ} → T (not (eqb a b)) → a ≢ b
+      differ {a} {b} t e = T-not (eqb a b) t (subst (λ x. T (eqb a x)) e (eqb-refl a))
 
   -- ---- the product with the matrix is the row operation
 

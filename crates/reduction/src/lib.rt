@@ -1,0 +1,4 @@
+// placeholder
+pub fn one() -> u8 {
+    1
+}
