@@ -1,4 +1,105 @@
-// Signed permutations by their column bytes.
-pub fn one() -> u8 {
-    1
+// Signed permutations by their six column bytes. The contracts cite specs/Columns.antt.
+
+ghost use mathlib.Core.List.{map};
+ghost use mathlib.Core.Path.{_≡_};
+ghost use Prim.Native.Nat.{_+_, _<_};
+ghost use lib.ListN.{drop, getD};
+ghost use Rattle.matrix.specs.Matrix.{entry};
+ghost use Rattle.clifford.specs.Columns.{below, columnByte, columnBytes, inversions, isEven, isMinus, minuses, rowOf};
+
+// The byte of column c: of its first entry that is not 0.
+fn column_byte(m: [i64; 36], c: usize) -> u8
+    requires { ⌜ c < 6 ⌝ }
+    ensures { λ r. ⌜ r ≡ columnByte (entry m) c ⌝ }
+{
+    let mut r = 0u8;
+    while r < 6 {
+        let x = m[(r as usize) * 6 + c];
+        if x == 1 {
+            return r + 1;
+        }
+        if x != 0 {
+            return r + 129;
+        }
+        r += 1;
+    }
+    135
+}
+
+// The six column bytes of a matrix.
+pub fn columns_of(m: [i64; 36]) -> [u8; 6]
+    ensures { λ r. ⌜ r ≡ columnBytes (entry m) ⌝ }
+{
+    let mut columns = [0u8; 6];
+    let mut c = 0usize;
+    while c < 6 {
+        columns[c] = column_byte(m, c);
+        c += 1;
+    }
+    columns
+}
+
+// The row of a column byte's entry, counted from 0.
+pub fn row_of(b: u8) -> u8
+    ensures { λ r. ⌜ r ≡ rowOf b ⌝ }
+{
+    if b == 0 {
+        return 0;
+    }
+    if b <= 128 {
+        return b - 1;
+    }
+    b - 129
+}
+
+// How many columns after c have their row below that of column c.
+fn rows_below(columns: [u8; 6], c: usize) -> u8
+    requires { ⌜ c < 6 ⌝ }
+    ensures { λ r. ⌜ (r < 6) × (r ≡ below (rowOf (getD columns c 0)) (map rowOf (drop (c + 1) columns))) ⌝ }
+{
+    let row = row_of(columns[c]);
+    let mut n = 0u8;
+    let mut d = 6usize;
+    while c + 1 < d {
+        d -= 1;
+        if row_of(columns[d]) < row {
+            n += 1;
+        }
+    }
+    n
+}
+
+// How many pairs of columns have their rows in the other order.
+fn inversions_of(columns: [u8; 6]) -> u8
+    ensures { λ r. ⌜ (r < 64) × (r ≡ inversions (map rowOf columns)) ⌝ }
+{
+    let mut n = 0u8;
+    let mut c = 6usize;
+    while 0 < c {
+        c -= 1;
+        n = rows_below(columns, c) + n;
+    }
+    n
+}
+
+// How many columns have -1.
+fn minuses_of(columns: [u8; 6]) -> u8
+    ensures { λ r. ⌜ (r < 7) × (r ≡ minuses columns) ⌝ }
+{
+    let mut n = 0u8;
+    let mut c = 6usize;
+    while 0 < c {
+        c -= 1;
+        if 129 <= columns[c] {
+            n += 1;
+        }
+    }
+    n
+}
+
+// Whether the permutation and its minus signs make an even number: the sign of the determinant.
+pub fn is_even(columns: [u8; 6]) -> bool
+    ensures { λ r. ⌜ r ≡ isEven columns ⌝ }
+{
+    (inversions_of(columns) + minuses_of(columns)) % 2 == 0
 }

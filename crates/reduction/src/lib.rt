@@ -1,4 +1,68 @@
-// placeholder
-pub fn one() -> u8 {
-    1
+// The reduction of an operator to its normal form. The contracts cite specs/Reduction.antt.
+
+ghost use mathlib.Core.Path.{_≡_};
+ghost use Prim.Native.Nat.{_≤_, _<_, _^_};
+ghost use Rattle.matrix.specs.Matrix.{entry, listed};
+ghost use Rattle.matrix.specs.Operator.{operator, Orthogonal, Reduced};
+ghost use Rattle.matrix.specs.Array.{Bounded, halfSums};
+ghost use Rattle.residue.specs.Generator.{low, high};
+ghost use Rattle.reduction.specs.Reduction.{cut};
+ghost use Rattle.reduction.specs.Result.{Whole, WholeOf};
+
+// The most generators that a reduction takes here.
+pub const MAX_GENERATORS: usize = 60;
+
+// What a reduction gives: the generators' numbers, of which the first `count` count, and the matrix that remains.
+pub struct Normal {
+    pub count: u8,
+    pub numbers: [u8; 60],
+    pub matrix: [i64; 36],
+}
+
+// The rows of pair p of generator g replaced by half of their sum and half of their difference.
+fn cut_pair(m: [i64; 36], g: usize, p: usize) -> [i64; 36]
+    requires { ⌜ (1 ≤ g) × (g ≤ 15) × (p < 3) × Bounded (2 ^ 30) (entry m) ⌝ }
+    ensures { λ r. ⌜ r ≡ listed (halfSums (low g p) (high g p) (entry m)) ⌝ }
+{
+    matrix::half_sums(m, residue::low_row(g, p), residue::high_row(g, p))
+}
+
+// Generator g's inverse on the left.
+pub fn cut_by(m: [i64; 36], g: usize) -> [i64; 36]
+    requires { ⌜ (1 ≤ g) × (g ≤ 15) × Bounded (2 ^ 30) (entry m) ⌝ }
+    ensures { λ r. ⌜ r ≡ listed (cut g (entry m)) ⌝ }
+{
+    cut_pair(cut_pair(cut_pair(m, g, 2), g, 1), g, 0)
+}
+
+// The cutting of a reduced orthogonal operator, one generator a turn.
+fn reduce(k: u8, m: [i64; 36]) -> Normal
+    requires { ⌜ (k ≤ 60) × Orthogonal (operator k (entry m)) × Reduced (operator k (entry m)) ⌝ }
+    ensures { λ r. ⌜ Whole k m r ⌝ }
+{
+    let mut numbers = [0u8; 60];
+    let mut matrix = m;
+    let mut n = 0u8;
+    while n < k {
+        let g = residue::first_fit(matrix);
+        let next = cut_by(matrix, g);
+        numbers[n as usize] = g as u8;
+        matrix = next;
+        n += 1;
+    }
+    Normal {
+        count: k,
+        numbers,
+        matrix,
+    }
+}
+
+// The cutting of an orthogonal operator, from its least exponent.
+pub fn normal_form(k: u8, m: [i64; 36]) -> Normal
+    requires { ⌜ (k ≤ 60) × Orthogonal (operator k (entry m)) ⌝ }
+    ensures { λ r. ⌜ WholeOf k m r ⌝ }
+{
+    let least = matrix::least_form(k, m);
+    let matrix = least.matrix;
+    reduce(least.exponent, matrix)
 }

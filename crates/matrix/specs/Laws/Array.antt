@@ -52,6 +52,9 @@ unfolding listed
 listed-is m M l h =
     tabulate-is (λ n. M (n / 6) (n % 6)) 36 (pos 0) m l (λ n u. sym (entry-flat m n) ∙ h (n / 6) (n % 6) (omega arith) (omega arith))
 
+pub listed-cong : (A B : Matrix) → Same 6 A B → listed A ≡ listed B
+listed-cong A B h = listed-is (listed A) B (length-listed A) (λ r c hr hc. entry-listed A r c hr hc ∙ h r c hr hc)
+
 -- one element set
 module _ (m : List ℤ) (i c : ℕ) (x : ℤ) (hc : c < 6) where
   pub entry-set-same : i < 6 → length m ≡ 36 → entry (set m (i * 6 + c) x) i c ≡ x
@@ -182,6 +185,9 @@ bounded-halved b M s = record { size = λ r c hr hc. let h = s .size r c hr hc i
 pub bounded-same : (b : ℕ) (M N : Matrix) → Same 6 M N → Bounded b N → Bounded b M
 bounded-same b M N e s = record { size = λ r c hr hc. subst (λ z. natAbs z ≤ b) (sym (e r c hr hc)) (s .size r c hr hc) }
 
+pub bounded-listed : (b : ℕ) (M : Matrix) → Bounded b M → Bounded b (entry (listed M))
+bounded-listed b M s = bounded-same b (entry (listed M)) M (entry-listed M) s
+
 -- ---- the least form
 
 -- m lowered by two powers of √2
@@ -246,7 +252,7 @@ least-form (suc (suc k)) m = go (allEven (entry m)) refl (least-form k (lowered 
       reduced = r .reduced;
       long = λ l. r .long (length-listed (halved (entry m)));
       below = let h = r .below in omega arith;
-      bounded = λ b s. r .bounded b (bounded-same b (entry (lowered m)) (halved (entry m)) (entry-listed (halved (entry m))) (bounded-halved b (entry m) s));
+      bounded = λ b s. r .bounded b (bounded-listed b (halved (entry m)) (bounded-halved b (entry m) s));
     }
     go false e r = itself (suc (suc k)) m (λ a. absurd (clash (sym (even-complete (entry m) a) ∙ e)))
       where
@@ -298,6 +304,13 @@ bounded-half-sums b i j M hi hj w s = record {
       (λ _. let x = s .size i c hi hc in let y = s .size j c hj hc in let t = natAbs-minus-le (M j c) (M i c) in let e = natAbs-half (M j c -ℤ M i c) in omega arith)
       (λ r p q h. s .size r c h hc) r hr;
 }
+
+pub half-sums-cong : (i j : ℕ) (A B : Matrix) → i < 6 → j < 6 → i ≢ j → Same 6 A B → Same 6 (halfSums i j A) (halfSums i j B)
+half-sums-cong i j A B hi hj w h r c hr hc =
+    half-sums-case i j A w c (λ r z. r < 6 → z ≡ halfSums i j B r c)
+    (λ _. rw (h i c hi hc, h j c hj hc) (sym (half-sums-i i j B w c)))
+    (λ _. rw (h i c hi hc, h j c hj hc) (sym (half-sums-j i j B w c)))
+    (λ r p q hr. h r c hr hc ∙ sym (half-sums-other i j B w r c p q)) r hr
 
 -- "These halves lose nothing, also for negative entries": of rows of equal parity, their difference and their sum are the rows again
 module _ (i j : ℕ) (M : Matrix) (w : i ≢ j) (p : (c : ℕ) → c < 6 → parity (M i c) ≡ parity (M j c)) where

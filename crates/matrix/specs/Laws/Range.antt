@@ -1,16 +1,16 @@
 -- Ranges of indices: what a loop that goes through one keeps, and what its result says at each index.
 use mathlib.Core.Path.{_≡_, refl, sym, ap, ap₂, _∙_, subst}
 use mathlib.Core.Bool.{Bool, true, false, cond, _&&_}
-use mathlib.Core.List.{List}
+use mathlib.Core.List.{List, _∷_}
 use Prim.Native.Nat.{ℕ, zero, suc, _+_, _*_, _-_, _/_, _%_, _^_, _<_, _≤_}
 use native.Mathlib.Nat.{add-zero, add-suc, suc-add}
 use native.Mathlib.Omega.{arith}
 use native.Mathlib.Decide.{ℕ-discrete}
 use lib.Count.{ones, ones-step}
 use lib.Dec.{T}
-use lib.ListN.{length, getD, set, length-set}
+use lib.ListN.{length, getD, drop, set, length-set}
 use lib.Pow.{shr-shr, pow-mono}
-use lib.Seq.{ext-getD, getD-set-same, getD-set-other}
+use lib.Seq.{drop-cons, ext-getD, getD-set-same, getD-set-other}
 use Rattle.matrix.specs.Range.{firstFrom, everyFrom, every, tabulate, bits, total}
 
 -- ---- a test at every index
@@ -124,6 +124,10 @@ module _ {A : Type 0} where
   tabulate-is f n d b l h =
       ext-getD d b (tabulate f 0 n) (l ∙ sym (length-tabulate f 0 n))
       (λ i u. h i (omega arith) ∙ sym (getD-tabulate f 0 n i d (omega arith) ∙ ap f (omega arith)))
+
+  -- the rest of a list, one element earlier: a turn of a loop that goes down
+  pub drop-down : (l : List A) (d : A) (n : ℕ) → 0 < n → n ≤ length l → drop (n - 1) l ≡ getD l (n - 1) d ∷ drop n l
+  drop-down l d n h u = let e : suc (n - 1) ≡ n = omega arith in drop-cons l (n - 1) d (omega arith) ∙ ap (λ x. getD l (n - 1) d ∷ drop x l) e
 
 -- the list b is b₀ with its first n elements set to f 0, f 1, ..: the invariant of a loop that fills from the front
 pub record Filled {A : Type 0} (d : A) (f : ℕ → A) (b₀ : List A) (n : ℕ) (b : List A) : Type 0 where

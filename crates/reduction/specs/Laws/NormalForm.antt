@@ -41,8 +41,19 @@ pub record Taken (k : ℕ) (M : Matrix) (gs : List ℕ) (C : Matrix) : Type 0 wh
   -- "A cut keeps its sign"
   pub sign : (n : ℕ) × (0 < n) × (det 6 M ≡ pos n *ℤ det 6 C)
 
-step-same : (m : List ℤ) → Same 6 (entry (step m)) (cut (chosen m) (entry m))
-step-same m = entry-listed (cut (chosen m) (entry m))
+-- after a step the array is reduced and orthogonal again, one exponent lower
+module _ (k : ℕ) (m : List ℤ) (o : Orthogonal (operator (suc k) (entry m))) (r : Reduced (operator (suc k) (entry m))) where
+  step-same : Same 6 (entry (step m)) (cut (chosen m) (entry m))
+  step-same = entry-listed (cut (chosen m) (entry m))
+
+  step-operator : SameOperator (operator k (cut (chosen m) (entry m))) (operator k (entry (step m)))
+  step-operator = same-operator-of _ _ refl (λ i j hi hj. sym (step-same i j hi hj))
+
+  pub step-orthogonal : Orthogonal (operator k (entry (step m)))
+  step-orthogonal = same-orthogonal step-operator (one-step k (entry m) o r .orthogonal)
+
+  pub step-reduced : Reduced (operator k (entry (step m)))
+  step-reduced = record { small = λ e. one-step k (entry m) o r .reduced .small (λ i j hi hj. subst (λ z. Even z) (step-same i j hi hj) (e i j hi hj)) }
 
 pub reduce : (k : ℕ) (m : List ℤ) → Orthogonal (operator k (entry m)) → Reduced (operator k (entry m)) → Taken k (entry m) (generators k m) (entry (remainder k m))
 unfolding generators remainder normalForm
@@ -55,16 +66,15 @@ reduce zero m o r = record {
 }
 reduce (suc k) m o r =
     let s = one-step k (entry m) o r in
-    let back : SameOperator (operator k (cut (chosen m) (entry m))) (operator k (entry (step m))) = same-operator-of _ _ refl (λ i j hi hj. sym (step-same m i j hi hj)) in
-    let rest = reduce k (step m) (same-orthogonal back (s .orthogonal)) (record { small = λ e. s .reduced .small (λ i j hi hj. subst (λ z. Even z) (step-same m i j hi hj) (e i j hi hj)) }) in
+    let rest = reduce k (step m) (step-orthogonal k m o r) (step-reduced k m o r) in
     record {
       exact = ap suc (rest .exact);
       numbers = λ i h. number-at i h (s .number) (rest .numbers);
       orthogonal = rest .orthogonal;
-      same = same-operator-trans (s .same) (times-same (same-operator-refl (operator 1 (generator (chosen m)))) (same-operator-trans back (rest .same)));
+      same = same-operator-trans (s .same) (times-same (same-operator-refl (operator 1 (generator (chosen m)))) (same-operator-trans (step-operator k m o r) (rest .same)));
       sign =
         let (n, p, e) = rest .sign in
-        (8 * n, mul-pos {m = 8} {n = n} (omega arith) p, s .sign ∙ ap (λ x. pos 8 *ℤ x) (sym (det-cong 6 _ _ (step-same m)) ∙ e) ∙ sym (*ℤ-assoc (pos 8) (pos n) (det 6 (entry (remainder k (step m))))));
+        (8 * n, mul-pos {m = 8} {n = n} (omega arith) p, s .sign ∙ ap (λ x. pos 8 *ℤ x) (sym (det-cong 6 _ _ (step-same k m o r)) ∙ e) ∙ sym (*ℤ-assoc (pos 8) (pos n) (det 6 (entry (remainder k (step m))))));
     }
   where
     number-at : (i : ℕ) → i < suc (length (generators k (step m))) → (1 ≤ chosen m) × (chosen m ≤ 15) → Numbers (generators k (step m)) → (1 ≤ getD (chosen m ∷ generators k (step m)) i 0) × (getD (chosen m ∷ generators k (step m)) i 0 ≤ 15)
