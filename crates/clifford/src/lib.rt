@@ -5,7 +5,7 @@ ghost use mathlib.Core.Path.{_≡_};
 ghost use Prim.Native.Nat.{_+_, _<_};
 ghost use lib.ListN.{drop, getD};
 ghost use Rattle.matrix.specs.Matrix.{entry};
-ghost use Rattle.clifford.specs.Columns.{below, columnByte, columnBytes, inversions, isEven, isMinus, minuses, rowOf};
+ghost use Rattle.clifford.specs.Columns.{below, columnByte, columnBytes, inversions, isEven, minuses, rowOf};
 
 // The byte of column c: of its first entry that is not 0.
 fn column_byte(m: [i64; 36], c: usize) -> u8

@@ -9,28 +9,28 @@ use Rattle.matrix.specs.Range.{sum, every, firstFrom, total}
 use Rattle.matrix.specs.Matrix.{Matrix, δ, combined}
 
 -- "A generator splits the six rows into three pairs": the pairs of generators 1 to 15, rows counted from 1, as document 01 prints them
-unfoldable pub table : List ℕ
+unfoldable pub table : List (List ℕ)
 table =
-    1 ∷ 2 ∷ 3 ∷ 4 ∷ 5 ∷ 6 ∷
-    1 ∷ 2 ∷ 3 ∷ 5 ∷ 4 ∷ 6 ∷
-    1 ∷ 2 ∷ 3 ∷ 6 ∷ 4 ∷ 5 ∷
-    1 ∷ 3 ∷ 2 ∷ 4 ∷ 5 ∷ 6 ∷
-    1 ∷ 3 ∷ 2 ∷ 5 ∷ 4 ∷ 6 ∷
-    1 ∷ 3 ∷ 2 ∷ 6 ∷ 4 ∷ 5 ∷
-    1 ∷ 4 ∷ 2 ∷ 3 ∷ 5 ∷ 6 ∷
-    1 ∷ 4 ∷ 2 ∷ 5 ∷ 3 ∷ 6 ∷
-    1 ∷ 4 ∷ 2 ∷ 6 ∷ 3 ∷ 5 ∷
-    1 ∷ 5 ∷ 2 ∷ 3 ∷ 4 ∷ 6 ∷
-    1 ∷ 5 ∷ 2 ∷ 4 ∷ 3 ∷ 6 ∷
-    1 ∷ 5 ∷ 2 ∷ 6 ∷ 3 ∷ 4 ∷
-    1 ∷ 6 ∷ 2 ∷ 3 ∷ 4 ∷ 5 ∷
-    1 ∷ 6 ∷ 2 ∷ 4 ∷ 3 ∷ 5 ∷
-    1 ∷ 6 ∷ 2 ∷ 5 ∷ 3 ∷ 4 ∷
+    (1 ∷ 2 ∷ 3 ∷ 4 ∷ 5 ∷ 6 ∷ []) ∷
+    (1 ∷ 2 ∷ 3 ∷ 5 ∷ 4 ∷ 6 ∷ []) ∷
+    (1 ∷ 2 ∷ 3 ∷ 6 ∷ 4 ∷ 5 ∷ []) ∷
+    (1 ∷ 3 ∷ 2 ∷ 4 ∷ 5 ∷ 6 ∷ []) ∷
+    (1 ∷ 3 ∷ 2 ∷ 5 ∷ 4 ∷ 6 ∷ []) ∷
+    (1 ∷ 3 ∷ 2 ∷ 6 ∷ 4 ∷ 5 ∷ []) ∷
+    (1 ∷ 4 ∷ 2 ∷ 3 ∷ 5 ∷ 6 ∷ []) ∷
+    (1 ∷ 4 ∷ 2 ∷ 5 ∷ 3 ∷ 6 ∷ []) ∷
+    (1 ∷ 4 ∷ 2 ∷ 6 ∷ 3 ∷ 5 ∷ []) ∷
+    (1 ∷ 5 ∷ 2 ∷ 3 ∷ 4 ∷ 6 ∷ []) ∷
+    (1 ∷ 5 ∷ 2 ∷ 4 ∷ 3 ∷ 6 ∷ []) ∷
+    (1 ∷ 5 ∷ 2 ∷ 6 ∷ 3 ∷ 4 ∷ []) ∷
+    (1 ∷ 6 ∷ 2 ∷ 3 ∷ 4 ∷ 5 ∷ []) ∷
+    (1 ∷ 6 ∷ 2 ∷ 4 ∷ 3 ∷ 5 ∷ []) ∷
+    (1 ∷ 6 ∷ 2 ∷ 5 ∷ 3 ∷ 4 ∷ []) ∷
     []
 
 -- number n (0 to 5) of generator g's six rows
 unfoldable pub place : ℕ → ℕ → ℕ
-place g n = getD table ((g - 1) * 6 + n) 0
+place g n = getD (getD table (g - 1) []) n 0
 
 -- the rows i < j of pair p (0 to 2) of generator g, counted from 0
 abbrev pub low : ℕ → ℕ → ℕ

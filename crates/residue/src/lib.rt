@@ -9,97 +9,22 @@ ghost use Rattle.residue.specs.Generator.{low, high, fits, firstFit};
 ghost use Rattle.residue.specs.Masks.{maskAt};
 
 // The three pairs of each generator, in the order of their numbers; rows are counted from 0.
-const PAIRS: [usize; 90] = [
-    0,
-    1,
-    2,
-    3,
-    4,
-    5, //
-    0,
-    1,
-    2,
-    4,
-    3,
-    5, //
-    0,
-    1,
-    2,
-    5,
-    3,
-    4, //
-    0,
-    2,
-    1,
-    3,
-    4,
-    5, //
-    0,
-    2,
-    1,
-    4,
-    3,
-    5, //
-    0,
-    2,
-    1,
-    5,
-    3,
-    4, //
-    0,
-    3,
-    1,
-    2,
-    4,
-    5, //
-    0,
-    3,
-    1,
-    4,
-    2,
-    5, //
-    0,
-    3,
-    1,
-    5,
-    2,
-    4, //
-    0,
-    4,
-    1,
-    2,
-    3,
-    5, //
-    0,
-    4,
-    1,
-    3,
-    2,
-    5, //
-    0,
-    4,
-    1,
-    5,
-    2,
-    3, //
-    0,
-    5,
-    1,
-    2,
-    3,
-    4, //
-    0,
-    5,
-    1,
-    3,
-    2,
-    4, //
-    0,
-    5,
-    1,
-    4,
-    2,
-    3, //
+const PAIRS: [[usize; 6]; 15] = [
+    [0, 1, 2, 3, 4, 5],
+    [0, 1, 2, 4, 3, 5],
+    [0, 1, 2, 5, 3, 4],
+    [0, 2, 1, 3, 4, 5],
+    [0, 2, 1, 4, 3, 5],
+    [0, 2, 1, 5, 3, 4],
+    [0, 3, 1, 2, 4, 5],
+    [0, 3, 1, 4, 2, 5],
+    [0, 3, 1, 5, 2, 4],
+    [0, 4, 1, 2, 3, 5],
+    [0, 4, 1, 3, 2, 5],
+    [0, 4, 1, 5, 2, 3],
+    [0, 5, 1, 2, 3, 4],
+    [0, 5, 1, 3, 2, 4],
+    [0, 5, 1, 4, 2, 3],
 ];
 
 // The first row of pair p of generator g.
@@ -107,7 +32,7 @@ pub fn low_row(g: usize, p: usize) -> usize
     requires { ⌜ (1 ≤ g) × (g ≤ 15) × (p < 3) ⌝ }
     ensures { λ r. ⌜ r ≡ low g p ⌝ }
 {
-    PAIRS[(g - 1) * 6 + p * 2]
+    PAIRS[g - 1][p * 2]
 }
 
 // The second row of pair p of generator g.
@@ -115,7 +40,7 @@ pub fn high_row(g: usize, p: usize) -> usize
     requires { ⌜ (1 ≤ g) × (g ≤ 15) × (p < 3) ⌝ }
     ensures { λ r. ⌜ r ≡ high g p ⌝ }
 {
-    PAIRS[(g - 1) * 6 + p * 2 + 1]
+    PAIRS[g - 1][p * 2 + 1]
 }
 
 // The masks of the six rows.

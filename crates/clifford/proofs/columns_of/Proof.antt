@@ -1,6 +1,6 @@
 -- The invariant: the bytes before c are those of the columns.
-use mathlib.Core.Path.{_≡_, refl, sym, ap, _∙_, subst}
-use Prim.Native.Nat.{ℕ, suc, _+_, _*_, _-_, _/_, _%_, _^_, _≤_, _<_}
+use mathlib.Core.Path.{_≡_, refl}
+use Prim.Native.Nat.{_-_, _≤_}
 use native.Mathlib.Omega.{arith}
 use Rattle.matrix.specs.Matrix.{entry}
 use Rattle.matrix.specs.Laws.Range.{Filled, filled-none, filled-more, filled-all}

@@ -1,5 +1,4 @@
 -- The cases of the definition; 0 is no column byte, and its row is 0.
-use mathlib.Core.Path.{_≡_, sym}
 use borrow.Author.Needs.{needs}
 use borrow.Author.Tests.{le-leb, lt-leb}
 use Rattle.clifford.proofs.row_of.Statement.{statement}

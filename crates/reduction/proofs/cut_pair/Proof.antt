@@ -1,6 +1,5 @@
 -- The rows are the generator's.
-use mathlib.Core.Path.{_≡_, sym, ap₂, _∙_}
-use Prim.Native.Nat.{_<_}
+use mathlib.Core.Path.{ap₂, _∙_}
 use borrow.Author.Needs.{needs}
 use Rattle.matrix.specs.Matrix.{entry, listed}
 use Rattle.matrix.specs.Array.{halfSums}

@@ -1,13 +1,12 @@
 -- The least form is orthogonal and reduced.
 use mathlib.Core.List.{List}
-use mathlib.Core.Path.{_≡_, sym, ap, _∙_, subst}
+use mathlib.Core.Path.{_≡_, sym, subst}
 use Prim.Native.Nat.{ℕ, _≤_}
 use native.Mathlib.Omega.{arith}
 use borrow.Author.Needs.{needs}
 use lib.IntN.{ℤ}
 use Rattle.matrix.specs.declared.Least.{Least}
-use Rattle.matrix.specs.Matrix.{entry}
-use Rattle.matrix.specs.Operator.{operator, Orthogonal, Reduced}
+use Rattle.matrix.specs.Operator.{Orthogonal, Reduced}
 use Rattle.matrix.specs.Array.{leastForm}
 use Rattle.matrix.specs.Laws.Array.{operatorOf, least-form, least-orthogonal}
 use Rattle.reduction.specs.declared.Normal.{Normal}

@@ -1,5 +1,5 @@
 -- The invariant: n generators are taken, and what is left reduces as the rest of the whole.
-use mathlib.Core.List.{List, _++_}
+use mathlib.Core.List.{List}
 use mathlib.Core.Path.{_≡_, refl, sym, ap, _∙_, subst}
 use Prim.Native.Nat.{ℕ, zero, suc, _+_, _-_, _^_, _≤_, _<_}
 use native.Mathlib.Nat.{zero-add, sub-zero}
@@ -7,14 +7,13 @@ use native.Mathlib.Decide.{decLt}
 use native.Mathlib.Omega.{arith}
 use borrow.Author.Needs.{needs}
 use lib.IntN.{ℤ}
-use lib.ListN.{length, getD, set, replicate, length-append, length-replicate, getD-replicate, List·getD-append}
+use lib.ListN.{length, getD, set, replicate, length-append, length-replicate, List·getD-append}
 use lib.Seq.{ext-getD, getD-append-add}
 use Rattle.matrix.specs.Matrix.{entry, listed}
 use Rattle.matrix.specs.Operator.{operator, Orthogonal, Reduced}
 use Rattle.matrix.specs.Array.{Bounded}
 use Rattle.matrix.specs.Laws.Range.{Filled, filled-none, filled-more}
 use Rattle.matrix.specs.Laws.Array.{orthogonal-bounded}
-use Rattle.residue.specs.Laws.Residue.{grouped-rows}
 use Rattle.reduction.specs.Reduction.{cut, chosen, step, generators, remainder}
 use Rattle.reduction.specs.Result.{numbersOf}
 use Rattle.reduction.specs.Laws.Step.{one-step}
@@ -54,7 +53,7 @@ module _ (k : ℕ) (m : List ℤ) (zeros : List ℕ) (n : ℕ) (numbers : List �
     rest = λ i. let j : n + 1 + i ≡ n + suc i = omega arith in rw (q, j) (s .rest (suc i) ∙ ap (λ x. getD (generators x a) (suc i) 0) here);
     left = rw q (s .left ∙ ap (λ x. remainder x a) here);
     filled = filled-more 0 (λ i. getD (generators k m) i 0) zeros n numbers x (s .filled) (omega arith)
-      (let j : n + 0 ≡ n = omega arith in e ∙ sym (subst (λ i. getD (generators k m) i 0 ≡ chosen a) j (s .rest 0 ∙ ap (λ x. getD (generators x a) 0 0) here)));
+        (let j : n + 0 ≡ n = omega arith in e ∙ sym (subst (λ i. getD (generators k m) i 0 ≡ chosen a) j (s .rest 0 ∙ ap (λ x. getD (generators x a) 0 0) here)));
   }
 
 -- the array when all are taken
@@ -81,13 +80,16 @@ abbrev μ-loop : tie.MeasureT-loop
 μ-loop k numbers₀ matrix₀ n₀ numbers matrix n = k - n
 
 loop-holds : tie.Need-loop-holds Inv-loop μ-loop
-loop-holds c = (search needs, record {
-  orthogonal = subst (λ x. Orthogonal (operator x (entry (c .args .m)))) (sym (sub-zero (c .args .k))) (c .pre .1);
-  reduced = subst (λ x. Reduced (operator x (entry (c .args .m)))) (sym (sub-zero (c .args .k))) (c .pre .2);
-  rest = λ i. rw (zero-add i, sub-zero (c .args .k));
-  left = rw (sub-zero (c .args .k));
-  filled = filled-none _ _ _;
-})
+loop-holds c = (
+  search needs,
+  record {
+    orthogonal = subst (λ x. Orthogonal (operator x (entry (c .args .m)))) (sym (sub-zero (c .args .k))) (c .pre .1);
+    reduced = subst (λ x. Reduced (operator x (entry (c .args .m)))) (sym (sub-zero (c .args .k))) (c .pre .2);
+    rest = λ i. rw (zero-add i, sub-zero (c .args .k));
+    left = rw (sub-zero (c .args .k));
+    filled = filled-none _ _ _;
+  },
+)
 
 first-fit-requires : tie.Need-first-fit-requires Inv-loop μ-loop
 first-fit-requires c κs = search needs
@@ -122,9 +124,11 @@ loop-less c = omega arith
 loop-again : tie.Need-loop-again Inv-loop μ-loop
 loop-again c =
     let l = c .before .before .before in
-    let g = c .before .first-fit .ensures in
-    (omega arith, turn (l .before .args .k) (l .before .args .m) _ (l .loop .n) (l .loop .numbers) (l .loop .matrix) (c .before .before .loop-test .taken) (l .loop .inv .1) _ _ g
-    (c .cut-by .ensures ∙ ap (λ x. listed (cut x (entry (l .loop .matrix)))) g) (l .before .pre .0) refl)
+    let g = c .before .first-fit .ensures in (
+      omega arith,
+      turn (l .before .args .k) (l .before .args .m) _ (l .loop .n) (l .loop .numbers) (l .loop .matrix) (c .before .before .loop-test .taken) (l .loop .inv .1) _ _ g
+          (c .cut-by .ensures ∙ ap (λ x. listed (cut x (entry (l .loop .matrix)))) g) (l .before .pre .0) refl,
+    )
 
 returns : tie.Need-returns Inv-loop μ-loop
 unfolding remainder

@@ -9,22 +9,21 @@ use lib.IntN.{ℤ, pos, _*ℤ_}
 use lib.ListN.{length, getD, take, drop, length-append}
 use lib.Seq.{take-at, drop-at}
 use lib.Signed.{_<ℤ_}
-use Rattle.matrix.specs.declared.Least.{Least}
 use Rattle.matrix.specs.Integer.{Even}
-use Rattle.matrix.specs.Matrix.{Matrix, Same, entry, listed}
+use Rattle.matrix.specs.Matrix.{Matrix, Same, entry}
 use Rattle.matrix.specs.Determinant.{det}
-use Rattle.matrix.specs.Operator.{Operator, operator, timesOperator, SameOperator, Orthogonal, Proper, LeastExponent, Reduced}
-use Rattle.matrix.specs.Array.{leastForm, rowMask}
+use Rattle.matrix.specs.Operator.{operator, SameOperator, Orthogonal, Proper, LeastExponent, Reduced}
+use Rattle.matrix.specs.Array.{leastForm}
 use Rattle.matrix.specs.Laws.Integer.{*ℤ-unit-l, *ℤ-assoc, positive-of-times, times-positive}
 use Rattle.matrix.specs.Laws.Range.{length-tabulate}
 use Rattle.matrix.specs.Laws.Determinant.{det-cong}
 use Rattle.matrix.specs.Laws.Operator.{same-operator-refl, same-operator-sym, same-operator-trans, same-operator-of, times-same, same-orthogonal, same-proper, reduced-unique}
-use Rattle.matrix.specs.Laws.Array.{entry-listed, length-listed, listed-is, operatorOf, least-form, least-orthogonal, least-exponent}
+use Rattle.matrix.specs.Laws.Array.{entry-listed, listed-is, least-form, least-orthogonal, least-exponent}
 use Rattle.clifford.specs.Columns.{columnsMatrix, columnBytes, Clifford}
 use Rattle.clifford.specs.Laws.Columns.{matrix-columns, orthogonal-clifford}
-use Rattle.residue.specs.Generator.{generator, firstFit}
+use Rattle.residue.specs.Generator.{generator}
 use Rattle.reduction.specs.Reduction.{cut, chosen, step, generators, remainder, count, taken, remaining, sheet, normalForm}
-use Rattle.reduction.specs.Laws.Step.{Step, one-step}
+use Rattle.reduction.specs.Laws.Step.{one-step}
 
 -- generator numbers
 abbrev pub Numbers : List ℕ → Type 0
@@ -73,8 +72,8 @@ reduce (suc k) m o r =
       orthogonal = rest .orthogonal;
       same = same-operator-trans (s .same) (times-same (same-operator-refl (operator 1 (generator (chosen m)))) (same-operator-trans (step-operator k m o r) (rest .same)));
       sign =
-        let (n, p, e) = rest .sign in
-        (8 * n, mul-pos {m = 8} {n = n} (omega arith) p, s .sign ∙ ap (λ x. pos 8 *ℤ x) (sym (det-cong 6 _ _ (step-same k m o r)) ∙ e) ∙ sym (*ℤ-assoc (pos 8) (pos n) (det 6 (entry (remainder k (step m))))));
+          let (n, p, e) = rest .sign in
+          (8 * n, mul-pos {m = 8} {n = n} (omega arith) p, s .sign ∙ ap (λ x. pos 8 *ℤ x) (sym (det-cong 6 _ _ (step-same k m o r)) ∙ e) ∙ sym (*ℤ-assoc (pos 8) (pos n) (det 6 (entry (remainder k (step m))))));
     }
   where
     number-at : (i : ℕ) → i < suc (length (generators k (step m))) → (1 ≤ chosen m) × (chosen m ≤ 15) → Numbers (generators k (step m)) → (1 ≤ getD (chosen m ∷ generators k (step m)) i 0) × (getD (chosen m ∷ generators k (step m)) i 0 ≤ 15)
@@ -131,7 +130,7 @@ module _ (k l : ℕ) (m n : List ℤ) (hm : length m ≡ 36) (hn : length n ≡ 
       let g = least-form l n in
       let (e, s) = reduced-unique (least-orthogonal k m o) (least-orthogonal l n p) (f .reduced) (g .reduced) (same-operator-trans (same-operator-sym (f .same)) (same-operator-trans h (g .same))) in
       let q : leastForm k m .matrix ≡ leastForm l n .matrix =
-          listed-is (leastForm k m .matrix) (entry (leastForm l n .matrix)) (f .long hm) s ∙ sym (listed-is (leastForm l n .matrix) (entry (leastForm l n .matrix)) (g .long hn) (λ i j hi hj. refl)) in
+      listed-is (leastForm k m .matrix) (entry (leastForm l n .matrix)) (f .long hm) s ∙ sym (listed-is (leastForm l n .matrix) (entry (leastForm l n .matrix)) (g .long hn) (λ i j hi hj. refl)) in
       ap₂ (λ a b. generators a b ++ columnBytes (entry (remainder a b))) e q
 
   -- one sheet, the same matrix
@@ -141,7 +140,7 @@ module _ (k l : ℕ) (m n : List ℤ) (hm : length m ≡ 36) (hn : length n ≡ 
       let c = cutting k m o in
       let d = cutting l n p in
       let t : length (taken k m) ≡ length (taken l n) =
-          let a = c .exact in let b = d .exact in let x = length-sheet k m o in let y = length-sheet l n p in let z = ap length e in omega arith in
+      let a = c .exact in let b = d .exact in let x = length-sheet k m o in let y = length-sheet l n p in let z = ap length e in omega arith in
       let gs : taken k m ≡ taken l n = sym (take-at (taken k m) _ (length (taken k m)) refl) ∙ ap (take (length (taken k m))) e ∙ take-at (taken l n) _ (length (taken k m)) (sym t) in
       let bs : columnBytes (entry (remaining k m)) ≡ columnBytes (entry (remaining l n)) = sym (drop-at (taken k m) _ (length (taken k m)) refl) ∙ ap (drop (length (taken k m))) e ∙ drop-at (taken l n) _ (length (taken k m)) (sym t) in
       same-operator-trans (c .same)

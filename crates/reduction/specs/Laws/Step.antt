@@ -1,31 +1,30 @@
 -- One cut of a reduced orthogonal operator: the halves are exact, the operator is the generator times what is left, and what is left is
 -- orthogonal and reduced, at an exponent one lower and with a determinant of the same sign.
-use mathlib.Core.Path.{_≡_, refl, sym, ap, _∙_, subst}
+use mathlib.Core.Path.{_≡_, sym, ap, _∙_}
 use mathlib.Core.Logic.{_≢_}
 use mathlib.Core.Bool.{true}
-use Prim.Native.Nat.{ℕ, zero, suc, _+_, _*_, _^_, _<_, _≤_}
+use Prim.Native.Nat.{ℕ, suc, _<_, _≤_}
 use native.Mathlib.Omega.{arith}
-use native.Mathlib.Decide.{ℕ-discrete}
 use lib.Dec.{eqb}
-use lib.IntN.{ℤ, pos, negsuc, _+ℤ_, _*ℤ_}
+use lib.IntN.{pos, _*ℤ_}
 use borrow.Author.Tests.{eqb-true}
 use Rattle.matrix.specs.Range.{sum}
 use Rattle.matrix.specs.Integer.{parity, half}
-use Rattle.matrix.specs.Matrix.{Matrix, Same, δ, product, transpose, scaled, OrthogonalRows}
+use Rattle.matrix.specs.Matrix.{Matrix, Same, δ, product, transpose, scaled}
 use Rattle.matrix.specs.Determinant.{det}
 use Rattle.matrix.specs.Operator.{operator, timesOperator, SameOperator, Orthogonal, AllEven, Reduced}
 use Rattle.matrix.specs.Array.{rowMask, halfSums}
 use Rattle.matrix.specs.Laws.Integer.{two-*ℤ, *ℤ-distr-l}
 use Rattle.matrix.specs.Laws.Parity.{half-even, even-parity}
 use Rattle.matrix.specs.Laws.Sum.{sum-cong, sum-add}
-use Rattle.matrix.specs.Laws.Range.{every-sound, First}
+use Rattle.matrix.specs.Laws.Range.{every-sound}
 use Rattle.matrix.specs.Laws.Matrix.{product-cong, product-assoc, product-scaled-l, same-refl, product-id-l}
 use Rattle.matrix.specs.Laws.Determinant.{det-cong}
-use Rattle.matrix.specs.Laws.Operator.{same-operator-of, same-operator-sym, same-orthogonal, times-orthogonal, halved-same}
+use Rattle.matrix.specs.Laws.Operator.{same-operator-of, same-orthogonal, times-orthogonal, halved-same}
 use Rattle.matrix.specs.Laws.Array.{equal-masks, half-sums-other, half-sums-exact, columns-of}
 use Rattle.residue.specs.Generator.{low, high, generator, turnedPair, turned, fits, firstFit}
-use Rattle.residue.specs.Laws.Generator.{low-six, high-six, low-not-high, pairs-apart, turned-pair-cong, generator-orthogonal, generator-product, turned-det}
-use Rattle.residue.specs.Laws.Residue.{Grouped, grouped-rows}
+use Rattle.residue.specs.Laws.Generator.{low-not-high, pairs-apart, turned-pair-cong, generator-orthogonal, generator-product, turned-det}
+use Rattle.residue.specs.Laws.Residue.{grouped-rows}
 use Rattle.reduction.specs.Reduction.{cut}
 
 module _ (g : ℕ) (l : 1 ≤ g) (u : g ≤ 15) (M : Matrix) (f : fits (rowMask M) g ≡ true) where
@@ -90,11 +89,12 @@ module _ (g : ℕ) (l : 1 ≤ g) (u : g ≤ 15) (M : Matrix) (f : fits (rowMask 
 
   -- were what is left all even, so would the matrix be
   pub cut-even : AllEven (cut g M) → AllEven M
-  cut-even e i j hi hj =
-      (sum 6 (λ t. generator g i t *ℤ half (cut g M t j)),
-      product-cut i j hi hj
-      ∙ sum-cong (λ t ht. ap (λ x. generator g i t *ℤ x) (sym (half-even (cut g M t j) (even-parity (cut g M t j) (e t j ht hj)))) ∙ *ℤ-distr-l (generator g i t) (half (cut g M t j)) (half (cut g M t j)))
-      ∙ sum-add 6 (λ t. generator g i t *ℤ half (cut g M t j)) (λ t. generator g i t *ℤ half (cut g M t j)))
+  cut-even e i j hi hj = (
+    sum 6 (λ t. generator g i t *ℤ half (cut g M t j)),
+    product-cut i j hi hj
+        ∙ sum-cong (λ t ht. ap (λ x. generator g i t *ℤ x) (sym (half-even (cut g M t j) (even-parity (cut g M t j) (e t j ht hj)))) ∙ *ℤ-distr-l (generator g i t) (half (cut g M t j)) (half (cut g M t j)))
+        ∙ sum-add 6 (λ t. generator g i t *ℤ half (cut g M t j)) (λ t. generator g i t *ℤ half (cut g M t j)),
+  )
 
   pub cut-det : det 6 M ≡ pos 8 *ℤ det 6 (cut g M)
   cut-det = sym (det-cong 6 _ _ turned-cut) ∙ turned-det g l u (cut g M)

@@ -1,7 +1,7 @@
 -- The constant is the table of document 01 with rows counted from 0.
-use Prim.Native.Nat.{_+_, _*_, _-_}
-use lib.ListN.{List·getD-map}
-use Rattle.residue.specs.Generator.{table, place}
+use Prim.Native.Nat.{_*_}
+use Rattle.residue.specs.Generator.{table}
+use Rattle.residue.specs.Laws.Table.{from-zero}
 use borrow.Author.Needs.{needs}
 use Rattle.residue.proofs.low_row.Statement.{statement}
 use Rattle.residue.proofs.low_row.Tie as tie
@@ -15,20 +15,27 @@ mul-result c = search needs
 mul-result-2 : tie.Need-mul-result-2
 mul-result-2 c = search needs
 
-add-result : tie.Need-add-result
-add-result c = search needs
-
 mul-result-3 : tie.Need-mul-result-3
 mul-result-3 c = search needs
 
-array-read-result : tie.Need-array-read-result
-array-read-result c = search needs
+index-1-result : tie.Need-index-1-result
+index-1-result c = search needs
+
+index-2-result : tie.Need-index-2-result
+index-2-result c = search needs
 
 returns : tie.Need-returns
-unfolding place table
-returns c = List·getD-map (λ x. x - 1) table ((c .args .g - 1) * 6 + c .args .p * 2) 0
+unfolding table
+returns c = from-zero (c .before .args .g) (c .before .args .p * 2)
 
 pub low-row-spec : {M : Type 1} → statement M
 low-row-spec =
     tie.close
-    (tie.spec sub-result mul-result mul-result-2 add-result mul-result-3 array-read-result returns)
+    (tie.spec
+    sub-result
+    mul-result
+    mul-result-2
+    mul-result-3
+    index-1-result
+    index-2-result
+    returns)

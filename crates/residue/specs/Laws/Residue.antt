@@ -8,16 +8,14 @@ use Prim.Native.Nat.{ℕ, zero, suc, _+_, _*_, _%_, _^_, _<_, _≤_}
 use native.Mathlib.Nat.{zero-add}
 use native.Mathlib.Omega.{arith}
 use lib.Dec.{T, eqb, ltb, eqb→eq, ltb→lt}
-use lib.IntN.{ℤ, pos, natAbs, _+ℤ_, _*ℤ_, *ℤ-zero}
+use lib.IntN.{ℤ, pos, natAbs, _+ℤ_, _*ℤ_}
 use borrow.Author.Tests.{eq-eqb, ne-eqb, eqb-true}
 use Rattle.matrix.specs.Range.{sum, bits, total, firstFrom}
 use Rattle.matrix.specs.Integer.{parity}
 use Rattle.matrix.specs.Matrix.{Matrix, transpose}
 use Rattle.matrix.specs.Operator.{operator, Orthogonal, AllEven, Reduced}
 use Rattle.matrix.specs.Array.{rowMask, rowWeight}
-use Rattle.matrix.specs.Laws.Integer.{square-size, *ℤ-unit-r}
 use Rattle.matrix.specs.Laws.Parity.{parity-add, parity-mul, parity-lt, parity-even}
-use Rattle.matrix.specs.Laws.Sum.{δ-same, δ-other}
 use Rattle.matrix.specs.Laws.Range.{First, first-found, first-in, every-sound, every-complete}
 use Rattle.matrix.specs.Laws.Array.{equal-masks, norm-total, row-norm, row-other, columns-of}
 use Rattle.residue.specs.Generator.{low, high, fits, firstFit, groupSize, inGroupsOf}

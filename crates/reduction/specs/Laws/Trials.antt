@@ -1,0 +1,17 @@
+-- Every case of the table passes.
+use mathlib.Core.Path.{_≡_, refl}
+use mathlib.Core.Bool.{true}
+use lib.IntN.{pow}
+use Rattle.matrix.specs.Integer.{parity}
+use Rattle.matrix.specs.Range.{sum, everyFrom, firstFrom, tabulate, bits, total}
+use Rattle.matrix.specs.Matrix.{δ, replaced, listed}
+use Rattle.matrix.specs.Determinant.{skip, det}
+use Rattle.matrix.specs.Array.{isOrthogonal, rowMask, allEven, leastForm}
+use Rattle.clifford.specs.Columns.{columnByte}
+use Rattle.residue.specs.Generator.{table, place, generator, fits, firstFit}
+use Rattle.reduction.specs.Reduction.{generators, remainder, sheet, normalForm}
+use Rattle.reduction.specs.Trials.{trials, allPass}
+
+pub trials-pass : allPass trials ≡ true
+unfolding trials parity sum everyFrom firstFrom tabulate bits total δ replaced listed skip det pow lib.IntN.one isOrthogonal rowMask allEven leastForm columnByte table place generator fits firstFit generators remainder sheet normalForm
+trials-pass = refl

@@ -1,0 +1,48 @@
+-- Document 01's trial cuts that are marked to be proved of the definitions: a table of cases, and the test that each passes.
+use mathlib.Core.Bool.{Bool, true, false, not, _&&_}
+use mathlib.Core.List.{List, [], _∷_}
+use Prim.Native.Nat.{ℕ}
+use lib.Dec.{eqb}
+use lib.IntN.{pos, negsuc, _*ℤ_}
+use lib.Signed.{ltZ}
+use Rattle.matrix.specs.Matrix.{δ, replaced, listed}
+use Rattle.matrix.specs.Determinant.{det}
+use Rattle.matrix.specs.Operator.{Operator, operator}
+use Rattle.matrix.specs.Array.{isOrthogonal}
+use Rattle.reduction.specs.Reduction.{sheet, sheetOperator}
+
+pub data Trial : Type 0 where
+  -- this operator has this sheet
+  cuts : Operator → List ℕ → Trial
+  -- cutting this sheet's operator gives another sheet: refusal 13
+  another : List ℕ → Trial
+  -- this operator is orthogonal and not proper: refusal 5
+  improper : Operator → Trial
+
+abbrev pub sameList : List ℕ → List ℕ → Bool
+sameList [] [] = true
+sameList [] (y ∷ ys) = false
+sameList (x ∷ xs) [] = false
+sameList (x ∷ xs) (y ∷ ys) = eqb x y && sameList xs ys
+
+abbrev pub sheetOf : Operator → List ℕ
+sheetOf A = sheet (A .exponent) (listed (A .matrix))
+
+abbrev pub passes : Trial → Bool
+passes (cuts A s) = isOrthogonal (A .exponent) (A .matrix) && sameList (sheetOf A) s
+passes (another s) = not (sameList (sheetOf (sheetOperator s)) s)
+passes (improper A) = isOrthogonal (A .exponent) (A .matrix) && ltZ (det 6 (A .matrix)) (pos 0)
+
+abbrev pub allPass : List Trial → Bool
+allPass [] = true
+allPass (t ∷ ts) = passes t && allPass ts
+
+-- the identity; twice the identity, k 2; the two sheets; the identity with −1 in row 1
+unfoldable pub trials : List Trial
+trials =
+    cuts (operator 0 δ) (1 ∷ 2 ∷ 3 ∷ 4 ∷ 5 ∷ 6 ∷ []) ∷
+    cuts (operator 2 (λ r c. pos 2 *ℤ δ r c)) (1 ∷ 2 ∷ 3 ∷ 4 ∷ 5 ∷ 6 ∷ []) ∷
+    another (13 ∷ 3 ∷ 1 ∷ 2 ∷ 3 ∷ 4 ∷ 5 ∷ 6 ∷ []) ∷
+    another (3 ∷ 3 ∷ 1 ∷ 2 ∷ 3 ∷ 4 ∷ 5 ∷ 6 ∷ []) ∷
+    improper (operator 0 (replaced 0 (λ c. negsuc 0 *ℤ δ 0 c) δ)) ∷
+    []
