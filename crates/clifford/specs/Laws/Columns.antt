@@ -339,12 +339,18 @@ same-byte b b′ v w h =
     nonzero true e = pos-ne-negsuc 0 0 (sym e)
     nonzero false e = pos-nz 1 (omega arith) e
 
--- the bytes of a permutation's matrix are the bytes
-pub columns-matrix : (bs : List ℕ) → Permutation bs → columnBytes (columnsMatrix bs) ≡ bs
-columns-matrix bs p =
+-- six bytes of columns whose matrix is orthogonal are the bytes of that matrix
+bytes-of : (bs : List ℕ) → length bs ≡ 6 → ((c : ℕ) → c < 6 → isColumnByte (getD bs c 0) ≡ true) → Orthogonal (operator 0 (columnsMatrix bs)) → columnBytes (columnsMatrix bs) ≡ bs
+bytes-of bs l v o =
     sym
-    (tabulate-is (columnByte (columnsMatrix bs)) 6 0 bs (p .long)
-    (λ c hc. let d = column (columnsMatrix bs) (columns-orthogonal bs p) c hc in same-byte (getD bs c 0) (columnByte (columnsMatrix bs) c) (p .bytes c hc) (d .valid) (d .is)))
+    (tabulate-is (columnByte (columnsMatrix bs)) 6 0 bs l
+    (λ c hc. let d = column (columnsMatrix bs) o c hc in same-byte (getD bs c 0) (columnByte (columnsMatrix bs) c) (v c hc) (d .valid) (d .is)))
+
+pub columns-matrix : (bs : List ℕ) → Permutation bs → columnBytes (columnsMatrix bs) ≡ bs
+columns-matrix bs p = bytes-of bs (p .long) (p .bytes) (columns-orthogonal bs p)
+
+pub orthogonal-permutation : (bs : List ℕ) → length bs ≡ 6 → ((c : ℕ) → c < 6 → isColumnByte (getD bs c 0) ≡ true) → Orthogonal (operator 0 (columnsMatrix bs)) → Permutation bs
+orthogonal-permutation bs l v o = subst Permutation (bytes-of bs l v o) (matrix-permutation (columnsMatrix bs) o)
 
 -- ---- Cliffords
 

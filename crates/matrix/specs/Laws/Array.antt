@@ -27,7 +27,7 @@ use Rattle.matrix.specs.Laws.Ring.{var, num, _:+_, _:-_, _:*_, _:=_, _of
 use Rattle.matrix.specs.Laws.Sum.{sum-cong, δ-same, δ-other, δ-sym}
 use Rattle.matrix.specs.Laws.Matrix.{orthogonal-columns}
 use Rattle.matrix.specs.Laws.Determinant.{replaced-same, replaced-other, det-cong, det-minus-plus}
-use Rattle.matrix.specs.Laws.Operator.{same-operator-refl, same-operator-trans, same-orthogonal, reduced-least, halved-same, entry-square, entry-bound}
+use Rattle.matrix.specs.Laws.Operator.{same-operator-refl, same-operator-sym, same-operator-trans, same-orthogonal, reduced-least, reduced-unique, halved-same, entry-square, entry-bound}
 
 -- ---- the array's view as a matrix
 
@@ -265,6 +265,17 @@ least-orthogonal k m o = same-orthogonal (least-form k m .same) o
 
 pub least-exponent : (k : ℕ) (m : List ℤ) → Orthogonal (operator k (entry m)) → LeastExponent (operator k (entry m)) (leastForm k m .exponent)
 least-exponent k m o = reduced-least (least-form k m .same) (least-orthogonal k m o) (least-form k m .reduced)
+
+-- pairs that stand for the same matrix have one least form
+pub same-least-form : (k l : ℕ) (m n : List ℤ) → length m ≡ 36 → length n ≡ 36 → Orthogonal (operator k (entry m)) → Orthogonal (operator l (entry n))
+    → SameOperator (operator k (entry m)) (operator l (entry n)) → leastForm k m ≡ leastForm l n
+same-least-form k l m n hm hn o p h =
+    let f = least-form k m in
+    let g = least-form l n in
+    let (e, s) = reduced-unique (least-orthogonal k m o) (least-orthogonal l n p) (f .reduced) (g .reduced) (same-operator-trans (same-operator-sym (f .same)) (same-operator-trans h (g .same))) in
+    let q : leastForm k m .matrix ≡ leastForm l n .matrix =
+    listed-is (leastForm k m .matrix) (entry (leastForm l n .matrix)) (f .long hm) s ∙ sym (listed-is (leastForm l n .matrix) (entry (leastForm l n .matrix)) (g .long hn) (λ i j hi hj. refl)) in
+    λ t. record { exponent = e t; matrix = q t }
 
 -- ---- half of the sum and half of the difference of two rows
 

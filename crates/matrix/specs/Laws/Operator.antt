@@ -16,7 +16,7 @@ use Rattle.matrix.specs.Operator.{Surd, whole, root, raised, Equal, Oper
 use Rattle.matrix.specs.Laws.Integer.{+ℤ-swap, *ℤ-distr-r, *ℤ-distr-l, *ℤ-unit-l, *ℤ-unit-r, *ℤ-left-comm, *ℤ-cancel-l, pos-nz, double-cancel, positive-of-times, times-positive, square-size}
 use Rattle.matrix.specs.Laws.Ring.{var, num, _:+_, _:*_, ring}
 use Rattle.matrix.specs.Laws.Sum.{sum-cong, sum-zero, term-le-sum, δ-same}
-use Rattle.matrix.specs.Laws.Matrix.{orthogonal-product}
+use Rattle.matrix.specs.Laws.Matrix.{product-assoc, orthogonal-product}
 use Rattle.matrix.specs.Laws.Determinant.{det-cong, det-scaled}
 
 -- ---- powers of √2
@@ -138,6 +138,11 @@ times-same {A} {A′} {B} {B′} p q = record {
       equal-sum (A .exponent + B .exponent) (A′ .exponent + B′ .exponent) 6 (λ k. A .matrix i k *ℤ B .matrix k j) (λ k. A′ .matrix i k *ℤ B′ .matrix k j)
       (λ k hk. equal-product (A .exponent) (A′ .exponent) (B .exponent) (B′ .exponent) (A .matrix i k) (A′ .matrix i k) (B .matrix k j) (B′ .matrix k j) (p .entries i k hi hk) (q .entries k j hk hj));
 }
+
+pub times-assoc : (A B C : Operator) → SameOperator (timesOperator (timesOperator A B) C) (timesOperator A (timesOperator B C))
+times-assoc A B C =
+    same-operator-of (timesOperator (timesOperator A B) C) (timesOperator A (timesOperator B C)) (omega arith)
+    (λ i j hi hj. ap (λ X. X i j) (product-assoc 6 (A .matrix) (B .matrix) (C .matrix)))
 
 pub times-orthogonal : {A B : Operator} → Orthogonal A → Orthogonal B → Orthogonal (timesOperator A B)
 times-orthogonal {A} {B} p q = record {

@@ -17,8 +17,8 @@ use Rattle.matrix.specs.Array.{leastForm}
 use Rattle.matrix.specs.Laws.Integer.{*ℤ-unit-l, *ℤ-assoc, positive-of-times, times-positive}
 use Rattle.matrix.specs.Laws.Range.{length-tabulate}
 use Rattle.matrix.specs.Laws.Determinant.{det-cong}
-use Rattle.matrix.specs.Laws.Operator.{same-operator-refl, same-operator-sym, same-operator-trans, same-operator-of, times-same, same-orthogonal, same-proper, reduced-unique}
-use Rattle.matrix.specs.Laws.Array.{entry-listed, listed-is, least-form, least-orthogonal, least-exponent}
+use Rattle.matrix.specs.Laws.Operator.{same-operator-refl, same-operator-sym, same-operator-trans, same-operator-of, times-same, same-orthogonal, same-proper}
+use Rattle.matrix.specs.Laws.Array.{entry-listed, least-form, least-orthogonal, least-exponent, same-least-form}
 use Rattle.clifford.specs.Columns.{columnsMatrix, columnBytes, Clifford}
 use Rattle.clifford.specs.Laws.Columns.{matrix-columns, orthogonal-clifford}
 use Rattle.residue.specs.Generator.{generator}
@@ -125,13 +125,7 @@ module _ (k l : ℕ) (m n : List ℤ) (hm : length m ≡ 36) (hn : length n ≡ 
   -- the same matrix, one sheet
   pub same-sheet : SameOperator (operator k (entry m)) (operator l (entry n)) → sheet k m ≡ sheet l n
   unfolding sheet
-  same-sheet h =
-      let f = least-form k m in
-      let g = least-form l n in
-      let (e, s) = reduced-unique (least-orthogonal k m o) (least-orthogonal l n p) (f .reduced) (g .reduced) (same-operator-trans (same-operator-sym (f .same)) (same-operator-trans h (g .same))) in
-      let q : leastForm k m .matrix ≡ leastForm l n .matrix =
-      listed-is (leastForm k m .matrix) (entry (leastForm l n .matrix)) (f .long hm) s ∙ sym (listed-is (leastForm l n .matrix) (entry (leastForm l n .matrix)) (g .long hn) (λ i j hi hj. refl)) in
-      ap₂ (λ a b. generators a b ++ columnBytes (entry (remainder a b))) e q
+  same-sheet h = ap (λ f. generators (f .exponent) (f .matrix) ++ columnBytes (entry (remainder (f .exponent) (f .matrix)))) (same-least-form k l m n hm hn o p h)
 
   -- one sheet, the same matrix
   pub sheet-same : sheet k m ≡ sheet l n → SameOperator (operator k (entry m)) (operator l (entry n))

@@ -1,0 +1,97 @@
+use mathlib.Core.Path.{_≡_, refl, sym, ap, _∙_, subst}
+use Prim.Native.Nat.{ℕ, _≤_, _<_}
+use native.Mathlib.Omega.{arith}
+use mathlib.Core.Path.{ap₂}
+use mathlib.Core.Logic.{_≢_}
+use mathlib.Core.List.{List, []}
+use lib.ListN.{length}
+use denote.Ref.{now}
+use borrow.Author.Tests.{lt-ltb, le-ltb}
+use Rattle.file.specs.declared.Answer.{Answer}
+use Rattle.file.specs.declared.Answer.the-variants.{Count, Refused}
+use Rattle.file.specs.File.{fileLength, fileOf, written, Short}
+use Rattle.file.specs.Laws.File.{orthogonal-short}
+use Rattle.gate.specs.declared.Read.{Read}
+use Rattle.gate.specs.Reading.{largestList, leastOf, Reading, gates, refusal, readFrom, reading, ReadAs, operatorAnswer, operatorBuffer}
+use Rattle.gate.specs.Laws.Reading.{least-of-orthogonal}
+use borrow.Author.Needs.{needs}
+use Rattle.gate.proofs.gates_to_operator.Statement.{statement}
+use Rattle.gate.proofs.gates_to_operator.Tie as tie
+use Rattle.gate.proofs.gates_to_operator.Reads as reads
+use Rattle.gate.proofs.gates_to_operator.Lts as lts
+use Rattle.file.proofs.encode.Reads as encode-reads
+use Rattle.gate.proofs.read_letters.Reads as read-letters-reads
+
+-- the answer and the buffer of a reading
+abbrev Done : List ℕ → Reading → Answer → List ℕ → Type 0
+Done old x a new = (a ≡ operatorAnswer (length old) x) × (new ≡ operatorBuffer old x)
+
+too-long : (bs old : List ℕ) → largestList < length bs → Done old (reading bs) (Refused 7) old
+unfolding reading
+too-long bs old h = rw (lt-ltb largestList (length bs) h) (refl, refl)
+
+not-too-long : (bs : List ℕ) → length bs ≤ largestList → reading bs ≡ readFrom [] bs
+unfolding reading
+not-too-long bs h = rw (le-ltb largestList (length bs) h)
+
+module _ (old : List ℕ) (r : Read) where
+  refused : (x : Reading) → ReadAs x r → r .refusal ≢ 0 → Done old x (Refused (r .refusal)) old
+  refused (gates w) p z = absurd (z (p .0))
+  refused (refusal n) p z = (ap Refused (p .0), refl)
+
+  no-room : (x : Reading) → ReadAs x r → r .refusal ≡ 0 → length old < fileLength → Done old x (Refused 6) old
+  no-room (gates w) p z h = rw (lt-ltb (length old) fileLength h) (refl, refl)
+  no-room (refusal n) p z h = absurd (omega arith)
+
+  room : (x : Reading) (new : List ℕ) → ReadAs x r → r .refusal ≡ 0 → fileLength ≤ length old → new ≡ written old (fileOf (r .exponent) (r .matrix)) → Done old x (Count (r .exponent)) new
+  room (gates w) new p z h e = rw (le-ltb (length old) fileLength h) (ap Count (p .1), e ∙ ap₂ (λ k m. written old (fileOf k m)) (p .1) (p .2))
+  room (refusal n) new p z h e = absurd (omega arith)
+
+  short : (x : Reading) → ReadAs x r → r .refusal ≡ 0 → Short (r .matrix)
+  short (gates w) p z = rw (p .2) (orthogonal-short (leastOf w .exponent) (leastOf w .matrix) (p .3) (least-of-orthogonal w))
+  short (refusal n) p z = absurd (omega arith)
+
+-- of the list that is read
+of-list : (bs old : List ℕ) {a : Answer} {new : List ℕ} → length bs ≤ largestList → Done old (readFrom [] bs) a new → Done old (reading bs) a new
+of-list bs old {a} {new} h d = subst (λ x. Done old x a new) (sym (not-too-long bs h)) d
+
+returns : tie.Need-returns
+returns c = too-long _ _ (c .if1 .taken)
+
+read-letters-requires : tie.Need-read-letters-requires
+read-letters-requires c κs = search needs
+
+returns-2 : tie.Need-returns-2
+returns-2 c =
+    let p = c .before .read-letters in
+    of-list _ _ (omega arith) (refused _ (p .result) (readFrom [] (now (c .before .before .before .before .before .args .letters))) (p .ensures) (c .if2 .taken))
+
+returns-3 : tie.Need-returns-3
+returns-3 c =
+    let p = c .before .before .read-letters in
+    of-list _ _ (omega arith) (no-room _ (p .result) (readFrom [] (now (c .before .before .before .before .before .before .args .letters))) (p .ensures) (c .before .if2 .left) (c .if3 .taken))
+
+encode-requires : tie.Need-encode-requires
+encode-requires c κs =
+    let p = c .before .before .before .before .read-letters in
+    (omega arith, short [] (p .result) (readFrom [] (now (c .before .before .before .before .before .before .before .before .args .letters))) (p .ensures) (c .before .before .before .if2 .left))
+
+same-length : tie.Need-same-length
+same-length c = search needs
+
+returns-4 : tie.Need-returns-4
+returns-4 c =
+    let p = c .before .before .before .before .before .before .before .read-letters in
+    of-list _ _ (omega arith) (room _ (p .result) (readFrom [] (now (c .before .before .before .before .before .before .before .before .before .before .before .args .letters))) _ (p .ensures) (c .before .before .before .before .before .before .if2 .left) (omega arith) (c .before .before .encode .ensures))
+
+pub gates-to-operator-spec : {M : Type 1} → statement M
+gates-to-operator-spec =
+    tie.close
+    (tie.spec
+    returns
+    read-letters-requires
+    returns-2
+    returns-3
+    encode-requires
+    same-length
+    returns-4)

@@ -1,0 +1,74 @@
+-- Gate lists read into operators (document 01, "The writer of a gate list").
+use mathlib.Core.Bool.{cond}
+use mathlib.Core.Path.{_≡_}
+use mathlib.Core.List.{List, [], _∷_, _++_}
+use Prim.Native.Nat.{ℕ, _+_, _≤_}
+use lib.Dec.{ltb}
+use lib.IntN.{ℤ}
+use lib.ListN.{length}
+use Rattle.matrix.specs.declared.Least.{Least}
+use Rattle.matrix.specs.Matrix.{entry, listed, product}
+use Rattle.matrix.specs.Array.{leastForm}
+use Rattle.file.specs.declared.Answer.{Answer}
+use Rattle.file.specs.declared.Answer.the-variants.{Count, Refused}
+use Rattle.file.specs.File.{largestExponent, fileLength, fileOf, written}
+use Rattle.word.specs.declared.Gate.{Gate}
+use Rattle.word.specs.declared.Letter.{Letter}
+use Rattle.word.specs.declared.Letter.the-variants.{Is, Unknown}
+use Rattle.word.specs.Gate.{gateOf}
+use Rattle.gate.specs.declared.Read.{Read}
+use Rattle.gate.specs.Product.{image, productOf}
+
+-- "more than 8,192 letters"
+abbrev pub largestList : ℕ
+largestList = 8192
+
+-- a list's product "over the least power of root two"
+unfoldable pub leastOf : List Gate → Least
+leastOf w = leastForm (productOf w .exponent) (listed (productOf w .matrix))
+
+-- a letter more, on the right
+unfoldable pub multiplied : ℕ → List ℤ → Gate → Least
+multiplied k m g = leastForm (k + image g .exponent) (listed (product 6 (entry m) (image g .matrix)))
+
+-- what reading gives: the gates, or the number of a refusal
+pub data Reading : Type 0 where
+  gates : List Gate → Reading
+  refusal : ℕ → Reading
+
+-- one letter behind the gates w: 8, "a byte that is no letter of the table", or 9, "a beginning of the list whose product has a least
+-- exponent above 28", or go on
+abbrev pub readLetter : List Gate → (List Gate → Reading) → Letter → Reading
+readLetter w rest Unknown = refusal 8
+readLetter w rest (Is g) = cond (ltb largestExponent (leastOf (w ++ g ∷ []) .exponent)) (refusal 9) (rest (w ++ g ∷ []))
+
+-- the same of the product alone; refusal 0 is none
+abbrev pub readByte : ℕ → List ℤ → Letter → Read
+readByte k m Unknown = record { refusal = 8; exponent = k; matrix = m }
+readByte k m (Is g) =
+    cond (ltb largestExponent (multiplied k m g .exponent)) (record { refusal = 9; exponent = k; matrix = m })
+    (record { refusal = 0; exponent = multiplied k m g .exponent; matrix = multiplied k m g .matrix })
+
+-- "8 or 9 at the leftmost place that earns one"
+unfoldable pub readFrom : List Gate → List ℕ → Reading
+readFrom w [] = gates w
+readFrom w (b ∷ bs) = readLetter w (λ v. readFrom v bs) (gateOf b)
+
+-- "Gate lists 7, then 8 or 9 at the leftmost place that earns one, then 6": the reading of a list with 7 before it
+unfoldable pub reading : List ℕ → Reading
+reading bs = cond (ltb largestList (length bs)) (refusal 7) (readFrom [] bs)
+
+-- what is kept of a reading
+abbrev pub ReadAs : Reading → Read → Type 0
+ReadAs (gates w) r = (r .refusal ≡ 0) × (r .exponent ≡ leastOf w .exponent) × (r .matrix ≡ leastOf w .matrix) × (leastOf w .exponent ≤ largestExponent)
+ReadAs (refusal n) r = (r .refusal ≡ n) × (1 ≤ n)
+
+-- the answer, where the lent buffer has n bytes
+abbrev pub operatorAnswer : ℕ → Reading → Answer
+operatorAnswer n (gates w) = cond (ltb n fileLength) (Refused 6) (Count (leastOf w .exponent))
+operatorAnswer n (refusal r) = Refused r
+
+-- the buffer afterwards
+abbrev pub operatorBuffer : List ℕ → Reading → List ℕ
+operatorBuffer old (gates w) = cond (ltb (length old) fileLength) old (written old (fileOf (leastOf w .exponent) (leastOf w .matrix)))
+operatorBuffer old (refusal r) = old

@@ -1,0 +1,262 @@
+// Gate lists: what they multiply to, read into operator files. The contracts cite specs/.
+
+use file::Answer;
+use matrix::Least;
+use word::Gate;
+use word::Letter;
+ghost use mathlib.Core.Path.{_≡_};
+ghost use mathlib.Core.List.{[]};
+ghost use lib.ListN.{length};
+ghost use mathlib.Core.Bool.{true};
+ghost use Prim.Native.Nat.{_≤_, _<_, _^_};
+ghost use Rattle.matrix.specs.Range.{tabulate};
+ghost use Rattle.matrix.specs.Matrix.{δ, entry, listed, product};
+ghost use Rattle.matrix.specs.Operator.{operator, Orthogonal};
+ghost use Rattle.matrix.specs.Array.{Bounded};
+ghost use Rattle.clifford.specs.Columns.{columnsMatrix, isColumnByte, arePermutation};
+ghost use Rattle.residue.specs.Generator.{generator};
+ghost use Rattle.gate.specs.Product.{image};
+ghost use Rattle.file.specs.File.{largestExponent};
+ghost use Rattle.word.specs.Gate.{gateOf};
+ghost use Rattle.gate.specs.Reading.{multiplied, readByte, ReadAs, readFrom, reading, operatorAnswer, operatorBuffer};
+ghost use Rattle.gate.specs.Times.{partnerIn, partner, pairEntry, signedEntry};
+
+// The other of pair p of generator g, if c is in that pair.
+fn partner_in(g: usize, p: usize, c: usize, other: usize) -> usize
+    requires { ⌜ (1 ≤ g) × (g ≤ 15) × (p < 3) ⌝ }
+    ensures { λ r. ⌜ r ≡ partnerIn g p c other ⌝ }
+{
+    let low = residue::low_row(g, p);
+    let high = residue::high_row(g, p);
+    if c == low {
+        return high;
+    }
+    if c == high {
+        return low;
+    }
+    other
+}
+
+// The other of the pair in which generator g has c.
+fn partner_of(g: usize, c: usize) -> usize
+    requires { ⌜ (1 ≤ g) × (g ≤ 15) ⌝ }
+    ensures { λ r. ⌜ r ≡ partner g c ⌝ }
+{
+    partner_in(g, 0, c, partner_in(g, 1, c, partner_in(g, 2, c, c)))
+}
+
+// The partners of the six columns.
+fn partners_of(g: usize) -> [usize; 6]
+    requires { ⌜ (1 ≤ g) × (g ≤ 15) ⌝ }
+    ensures { λ r. ⌜ r ≡ tabulate (partner g) 0 6 ⌝ }
+{
+    let mut partners = [0usize; 6];
+    let mut c = 0usize;
+    while c < 6 {
+        partners[c] = partner_of(g, c);
+        c += 1;
+    }
+    partners
+}
+
+// An entry of the product with a generator, where p is the partner of c.
+fn pair_entry(m: [i64; 36], r: usize, c: usize, p: usize) -> i64
+    requires { ⌜ (r < 6) × (c < 6) × (p < 6) × Bounded (2 ^ 30) (entry m) ⌝ }
+    ensures { λ x. ⌜ x ≡ pairEntry (entry m) r c p ⌝ }
+{
+    if c < p {
+        return m[r * 6 + c] + m[r * 6 + p];
+    }
+    m[r * 6 + c] - m[r * 6 + p]
+}
+
+// The product with generator g on the right.
+pub fn times_generator(m: [i64; 36], g: usize) -> [i64; 36]
+    requires { ⌜ (1 ≤ g) × (g ≤ 15) × Bounded (2 ^ 30) (entry m) ⌝ }
+    ensures { λ r. ⌜ r ≡ listed (product 6 (entry m) (generator g)) ⌝ }
+{
+    let partners = partners_of(g);
+    let mut out = [0i64; 36];
+    let mut n = 0usize;
+    while n < 36 {
+        let c = n % 6;
+        out[n] = pair_entry(m, n / 6, c, partners[c]);
+        n += 1;
+    }
+    out
+}
+
+// An entry of the product with a Clifford, in the column of byte b.
+fn signed_entry(m: [i64; 36], r: usize, b: u8) -> i64
+    requires { ⌜ (r < 6) × (isColumnByte b ≡ true) × Bounded (2 ^ 30) (entry m) ⌝ }
+    ensures { λ x. ⌜ x ≡ signedEntry (entry m) r b ⌝ }
+{
+    let row = clifford::row_of(b) as usize;
+    if 129 <= b {
+        return -m[r * 6 + row];
+    }
+    m[r * 6 + row]
+}
+
+// The product with the Clifford of these columns on the right.
+pub fn times_columns(m: [i64; 36], columns: [u8; 6]) -> [i64; 36]
+    requires { ⌜ (arePermutation columns ≡ true) × Bounded (2 ^ 30) (entry m) ⌝ }
+    ensures { λ r. ⌜ r ≡ listed (product 6 (entry m) (columnsMatrix columns)) ⌝ }
+{
+    let mut out = [0i64; 36];
+    let mut n = 0usize;
+    while n < 36 {
+        out[n] = signed_entry(m, n / 6, columns[n % 6]);
+        n += 1;
+    }
+    out
+}
+
+// An entry of the identity.
+fn unit(r: usize, c: usize) -> i64
+    ensures { λ x. ⌜ x ≡ δ r c ⌝ }
+{
+    if r == c {
+        return 1;
+    }
+    0
+}
+
+// The identity.
+fn identity() -> [i64; 36]
+    ensures { λ r. ⌜ r ≡ listed δ ⌝ }
+{
+    let mut out = [0i64; 36];
+    let mut n = 0usize;
+    while n < 36 {
+        out[n] = unit(n / 6, n % 6);
+        n += 1;
+    }
+    out
+}
+
+// The product with a gate's image on the right.
+fn times_image(m: [i64; 36], g: Gate) -> [i64; 36]
+    requires { ⌜ Bounded (2 ^ 30) (entry m) ⌝ }
+    ensures { λ r. ⌜ r ≡ listed (product 6 (entry m) (image g .matrix)) ⌝ }
+{
+    match g {
+        Gate::H1 => times_columns(m, [3, 130, 1, 4, 5, 6]),
+        Gate::H2 => times_columns(m, [1, 2, 3, 6, 133, 4]),
+        Gate::S1 => times_columns(m, [2, 129, 3, 4, 5, 6]),
+        Gate::S2 => times_columns(m, [1, 2, 3, 5, 132, 6]),
+        Gate::Cz => times_columns(m, [2, 129, 6, 5, 132, 131]),
+        Gate::Cs => times_generator(m, 3),
+    }
+}
+
+// The exponent of a gate's image.
+fn image_exponent(g: Gate) -> u8
+    ensures { λ r. ⌜ (r ≡ image g .exponent) × (r ≤ 1) ⌝ }
+{
+    match g {
+        Gate::H1 => 0,
+        Gate::H2 => 0,
+        Gate::S1 => 0,
+        Gate::S2 => 0,
+        Gate::Cz => 0,
+        Gate::Cs => 1,
+    }
+}
+
+// A letter more on the right, at the least exponent.
+fn times_gate(k: u8, m: [i64; 36], g: Gate) -> Least
+    requires { ⌜ (k ≤ largestExponent) × Orthogonal (operator k (entry m)) ⌝ }
+    ensures { λ r. ⌜ r ≡ multiplied k m g ⌝ }
+{
+    let exponent = k + image_exponent(g);
+    let product = times_image(m, g);
+    matrix::least_form(exponent, product)
+}
+
+// What reading letters gives: the number of a refusal, or 0 and their product at its least exponent.
+pub struct Read {
+    pub refusal: u8,
+    pub exponent: u8,
+    pub matrix: [i64; 36],
+}
+
+// One letter behind a product.
+fn read_letter(k: u8, m: [i64; 36], b: u8) -> Read
+    requires { ⌜ (k ≤ largestExponent) × Orthogonal (operator k (entry m)) ⌝ }
+    ensures { λ r. ⌜ r ≡ readByte k m (gateOf b) ⌝ }
+{
+    match word::gate_of(b) {
+        Letter::Is(g) => {
+            let next = times_gate(k, m, g);
+            let exponent = next.exponent;
+            let matrix = next.matrix;
+            if file::LARGEST_EXPONENT < exponent {
+                return Read {
+                    refusal: 9,
+                    exponent: k,
+                    matrix: m,
+                };
+            }
+            Read {
+                refusal: 0,
+                exponent,
+                matrix,
+            }
+        }
+        Letter::Unknown => Read {
+            refusal: 8,
+            exponent: k,
+            matrix: m,
+        },
+    }
+}
+
+// The letters from the left on.
+fn read_letters(letters: &[u8]) -> Read
+    ensures { λ r. ⌜ ReadAs (readFrom [] (now (letters .entry))) r ⌝ }
+{
+    let mut k = 0u8;
+    let mut m = identity();
+    let mut n = 0usize;
+    while n < letters.len() {
+        let next = read_letter(k, m, letters[n]);
+        let refusal = next.refusal;
+        if refusal != 0 {
+            return next;
+        }
+        k = next.exponent;
+        m = next.matrix;
+        n += 1;
+    }
+    Read {
+        refusal: 0,
+        exponent: k,
+        matrix: m,
+    }
+}
+
+// The most letters of a gate list.
+pub const LARGEST_LIST: usize = 8192;
+
+// A gate list into an operator file at the front of `out`.
+pub fn gates_to_operator(letters: &[u8], out: &mut [u8]) -> Answer
+    ensures { λ r. ⌜ r ≡ operatorAnswer (length (now (out .entry))) (reading (now (letters .entry))) ⌝ }
+    ensures { λ r. ⌜ now (out .exit) ≡ operatorBuffer (now (out .entry)) (reading (now (letters .entry))) ⌝ }
+{
+    if LARGEST_LIST < letters.len() {
+        return Answer::Refused(7);
+    }
+    let product = read_letters(letters);
+    let refusal = product.refusal;
+    if refusal != 0 {
+        return Answer::Refused(refusal);
+    }
+    if out.len() < file::FILE_LENGTH {
+        return Answer::Refused(6);
+    }
+    let exponent = product.exponent;
+    let matrix = product.matrix;
+    file::encode(exponent, matrix, out);
+    Answer::Count(exponent)
+}
