@@ -3,3 +3,4 @@ pub mod Product
 pub mod List
 pub mod Times
 pub mod Reading
+pub mod Trials

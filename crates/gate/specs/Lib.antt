@@ -3,4 +3,5 @@ pub mod Product
 pub mod List
 pub mod Times
 pub mod Reading
+pub mod Trials
 pub mod Laws

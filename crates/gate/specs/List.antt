@@ -1,8 +1,11 @@
 -- The gate list of a normal form (document 01, "Gate list"): "exactly t letters C. Its Clifford letters are the builder's choice, from tables
 -- printed in docs/".
+use mathlib.Core.Path.{_≡_}
+use mathlib.Core.Bool.{true}
 use mathlib.Core.List.{List, [], _∷_, _++_}
 use Prim.Native.Nat.{ℕ, _-_}
 use lib.ListN.{getD}
+use Rattle.clifford.specs.Columns.{arePermutation, isEven}
 use Rattle.word.specs.declared.Gate.{Gate}
 use Rattle.word.specs.declared.Gate.the-variants.{Cs}
 use Rattle.word.specs.Word.{composed, cliffordWord}
@@ -52,9 +55,18 @@ leftOf g = getD lefts (g - 1) []
 unfoldable pub rightOf : ℕ → List ℕ
 rightOf g = getD rights (g - 1) []
 
+-- six bytes of a Clifford's columns
+pub record IsClifford (bs : List ℕ) : Type 0 where
+  pub permutation : arePermutation bs ≡ true
+  pub even : isEven bs ≡ true
+
 -- a generator's word
 abbrev pub generatorWord : ℕ → List Gate
 generatorWord g = cliffordWord (leftOf g) ++ Cs ∷ cliffordWord (rightOf g)
+
+-- what is written before and with a letter C, where the Clifford bs is left from before
+abbrev pub stretch : List ℕ → ℕ → List Gate
+stretch bs g = cliffordWord (composed bs (leftOf g)) ++ Cs ∷ []
 
 -- the word of a Clifford bs times generators times a Clifford cs: what stands between two letters C is one Clifford
 unfoldable pub stretches : List ℕ → List ℕ → List ℕ → List Gate

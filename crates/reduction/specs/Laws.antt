@@ -1,4 +1,3 @@
 -- Theorems, a file for each subject; a file cites only those above it.
 pub mod Step
 pub mod NormalForm
-pub mod Trials

@@ -1,5 +1,4 @@
 -- Definitions first; the theorems about them are in `Laws/`.
 pub mod Reduction
 pub mod Result
-pub mod Trials
 pub mod Laws

@@ -178,7 +178,7 @@ fn image(columns: [u8; 6], b: u8) -> u8
 }
 
 // The columns of a product.
-fn compose(left: [u8; 6], right: [u8; 6]) -> [u8; 6]
+pub fn compose(left: [u8; 6], right: [u8; 6]) -> [u8; 6]
     requires { ⌜ areColumnBytes right ≡ true ⌝ }
     ensures { λ r. ⌜ r ≡ composed left right ⌝ }
 {

@@ -30,14 +30,10 @@ use Rattle.word.specs.Word.{composed, cliffordWord}
 use Rattle.word.specs.Laws.Matrix.{composed-matrix, composed-permutation}
 use Rattle.word.specs.Laws.Word.{number-append, word-length, word-cs, word-matrix}
 use Rattle.gate.specs.Product.{image, productOf, MultipliesTo, csGates}
-use Rattle.gate.specs.List.{lefts, rights, leftOf, rightOf, generatorWord, stretches, identityColumns, gateList}
+use Rattle.gate.specs.List.{IsClifford, lefts, rights, leftOf, rightOf, generatorWord, stretches, identityColumns, gateList}
 use Rattle.gate.specs.Laws.Product.{product-append, product-proper, fewest}
 
 -- ---- words without the letter C
-
-pub record IsClifford (bs : List ℕ) : Type 0 where
-  pub permutation : arePermutation bs ≡ true
-  pub even : isEven bs ≡ true
 
 word-product : (w : List Gate) → number isCs w ≡ 0 → SameOperator (productOf w) (operator 0 (wordMatrix w))
 unfolding productOf wordMatrix image
@@ -63,7 +59,7 @@ clifford-word bs c = record {
 times-clifford : (bs cs : List ℕ) → IsClifford bs → IsClifford cs → SameOperator (timesOperator (clifford bs) (clifford cs)) (clifford (composed bs cs))
 times-clifford bs cs b c = same-operator-of (timesOperator (clifford bs) (clifford cs)) (clifford (composed bs cs)) refl (composed-matrix bs cs (b .permutation) (c .permutation))
 
-composed-clifford : (bs cs : List ℕ) → IsClifford bs → IsClifford cs → IsClifford (composed bs cs)
+pub composed-clifford : (bs cs : List ℕ) → IsClifford bs → IsClifford cs → IsClifford (composed bs cs)
 composed-clifford bs cs b c =
     let p = composed-permutation bs cs (b .permutation) (c .permutation) in
     record {
@@ -102,7 +98,7 @@ module _ (g : ℕ) (l : 1 ≤ g) (u : g ≤ 15) where
       same-operator-of (operator 1 (generator g)) (timesOperator (clifford (leftOf g)) (timesOperator (operator 1 (generator 3)) (clifford (rightOf g)))) refl
       (λ r c hr hc. equals-eq _ _ (everywhere-sound (λ r c. equals (generator g r c) (between g r c)) (T-true _ (numbered isSplit 15 all-split g l u)) r c hr hc))
 
-  both-cliffords : IsClifford (leftOf g) × IsClifford (rightOf g)
+  pub both-cliffords : IsClifford (leftOf g) × IsClifford (rightOf g)
   unfolding cliffords
   both-cliffords =
       let t = numbered cliffords 15 all-cliffords g l u in
@@ -192,7 +188,7 @@ pub record Listed (k : ℕ) (m : List ℤ) (w : List Gate) : Type 0 where
   pub short : length w ≤ 256 * (count k m + 1)
   pub fewest : (v : List Gate) → MultipliesTo v (operator k (entry m)) → csGates w ≤ csGates v
 
-identity-clifford : IsClifford identityColumns
+pub identity-clifford : IsClifford identityColumns
 unfolding arePermutation isEven
 identity-clifford = record { permutation = refl; even = refl }
 

@@ -9,9 +9,10 @@ use Rattle.matrix.specs.Determinant.{skip, det}
 use Rattle.matrix.specs.Array.{isOrthogonal, rowMask, allEven, leastForm}
 use Rattle.clifford.specs.Columns.{columnByte}
 use Rattle.residue.specs.Generator.{table, place, generator, fits, firstFit}
 use Rattle.reduction.specs.Reduction.{generators, remainder, sheet, normalForm}
-use Rattle.reduction.specs.Trials.{trials, allPass}
+use Rattle.gate.specs.Product.{image, productOf}
+use Rattle.gate.specs.Trials.{trials, allPass}
 
 pub trials-pass : allPass trials ≡ true
-unfolding trials parity sum everyFrom firstFrom tabulate bits total δ replaced listed skip det pow lib.IntN.one isOrthogonal rowMask allEven leastForm columnByte table place generator fits firstFit generators remainder sheet normalForm
+unfolding trials parity sum everyFrom firstFrom tabulate bits total δ replaced listed skip det pow lib.IntN.one isOrthogonal rowMask allEven leastForm columnByte table place generator fits firstFit generators remainder sheet normalForm image productOf
 trials-pass = refl

@@ -1,0 +1,176 @@
+use mathlib.Core.Path.{_≡_, refl, sym, ap, _∙_, subst}
+use Prim.Native.Nat.{ℕ, _+_, _*_, _-_, _≤_, _<_}
+use native.Mathlib.Omega.{arith}
+use mathlib.Core.Path.{ap₂}
+use mathlib.Core.List.{List, [], _∷_, _++_, append-assoc}
+use native.Mathlib.Numerals.{add-one}
+use lib.ListN.{length, getD, take, drop, length-append}
+use lib.Seq.{length-take-le, getD-take, drop-cons, drop-length}
+use denote.Ref.{now}
+use Rattle.reduction.specs.Laws.NormalForm.{Numbers}
+use Rattle.word.specs.declared.Gate.{Gate}
+use Rattle.word.specs.declared.Gate.the-variants.{Cs}
+use Rattle.word.specs.Word.{composed, cliffordWord}
+use Rattle.word.specs.Written.{Written}
+use Rattle.word.specs.Laws.Bytes.{columns-valid}
+use Rattle.word.specs.Laws.Word.{word-length}
+use Rattle.word.specs.Laws.Written.{written-as, written-none, written-length, written-append}
+use Rattle.gate.specs.List.{IsClifford, leftOf, rightOf, stretch, stretches, identityColumns, gateList}
+use Rattle.gate.specs.Laws.List.{identity-clifford, composed-clifford, both-cliffords}
+use borrow.Author.Needs.{needs}
+use Rattle.gate.proofs.write_list.Statement.{statement}
+use Rattle.gate.proofs.write_list.Tie as tie
+use Rattle.gate.proofs.write_list.Reads as reads
+use Rattle.gate.proofs.write_list.Lts as lts
+use Rattle.gate.proofs.right_of.Reads as right-of-reads
+use Rattle.gate.proofs.write_stretch.Reads as write-stretch-reads
+use Rattle.word.proofs.compose.Reads as compose-reads
+use Rattle.word.proofs.write_clifford.Reads as write-clifford-reads
+
+-- the letters w are written; what is left of the list begins with the Clifford `between`
+record Going (gs columns out₀ out between : List ℕ) (at n : ℕ) : Type 0 where
+  clifford : IsClifford between
+  w : List Gate
+  short : length w ≤ 24 * n
+  written : Written w 0 out₀ out at
+  rest : gateList gs columns ≡ w ++ stretches between (drop n gs) columns
+
+start : (gs columns out : List ℕ) → Going gs columns out out identityColumns 0 0
+start gs columns out = record { clifford = identity-clifford; w = []; short = omega arith; written = written-none 0 out; rest = refl }
+
+module _ (gs columns out₀ out between : List ℕ) (at n : ℕ) (s : Going gs columns out₀ out between at n) (h : 24 * n + 24 ≤ length out₀) where
+  room : 0 + length (s .w) ≤ length out₀
+  room = let l = s .short in omega arith
+
+  same-size : length out ≡ length out₀
+  same-size = written-length (s .written) room
+
+  place : at ≤ 24 * n
+  place = let e = s .written .next in let l = s .short in omega arith
+
+  -- a turn
+  turn : (g : ℕ) (new : List ℕ) (r : ℕ) → n < length gs → g ≡ getD gs n 0 → (1 ≤ g) × (g ≤ 15) → Written (stretch between g) at out new r → Going gs columns out₀ new (rightOf g) r (n + 1)
+  unfolding stretches
+  turn g new r u e (l, m) k =
+      let d : drop n gs ≡ g ∷ drop (n + 1) gs = drop-cons gs n 0 u ∙ ap₂ (λ x y. x ∷ drop y gs) (sym e) (sym (add-one n)) in
+      record {
+        clifford = both-cliffords g l m .1;
+        w = s .w ++ stretch between g;
+        short = let a = word-length (composed between (leftOf g)) in let b = s .short in let x = length-append (s .w) (stretch between g) in let y = length-append (cliffordWord (composed between (leftOf g))) (Cs ∷ []) in omega arith;
+        written = written-append (s .written) room k;
+        rest = s .rest ∙ ap (λ x. s .w ++ stretches between x columns) d
+            ∙ ap (λ x. s .w ++ x) (sym (append-assoc (cliffordWord (composed between (leftOf g))) (Cs ∷ []) (stretches (rightOf g) (drop (n + 1) gs) columns)))
+            ∙ sym (append-assoc (s .w) (stretch between g) (stretches (rightOf g) (drop (n + 1) gs) columns));
+      }
+
+  -- the end
+  whole : (new : List ℕ) (r : ℕ) → n ≡ length gs → Written (cliffordWord (composed between columns)) at out new r → Written (gateList gs columns) 0 out₀ new r
+  unfolding stretches
+  whole new r e k =
+      written-as (sym (s .rest ∙ ap (λ x. s .w ++ stretches between x columns) (ap (λ x. drop x gs) e ∙ drop-length gs))) (written-append (s .written) room k)
+
+-- the numbers that count
+module _ (count : ℕ) (numbers : List ℕ) (h : count ≤ 60) (l : length numbers ≡ 60) where
+  taken : length (take count numbers) ≡ count
+  taken = length-take-le count numbers (omega arith)
+
+  number : Numbers (take count numbers) → (n : ℕ) → n < count → (1 ≤ getD numbers n 0) × (getD numbers n 0 ≤ 15)
+  number v n u = subst (λ g. (1 ≤ g) × (g ≤ 15)) (getD-take count numbers n 0 u) (v n (let e = taken in omega arith))
+
+abbrev Inv-loop : tie.InvT-loop
+Inv-loop count columns out₀ numbers between₀ at₀ n₀ out between at n = (n ≤ count) × Going (take count numbers) columns out₀ out between at n
+
+abbrev μ-loop : tie.MeasureT-loop
+μ-loop count columns out₀ numbers between₀ at₀ n₀ out between at n = count - n
+
+loop-holds : tie.Need-loop-holds Inv-loop μ-loop
+loop-holds c = (omega arith, start _ _ _)
+
+cast-g : tie.Need-cast-g Inv-loop μ-loop
+cast-g c = search needs
+
+array-read-g : tie.Need-array-read-g Inv-loop μ-loop
+array-read-g c = search needs
+
+cast-g-2 : tie.Need-cast-g-2 Inv-loop μ-loop
+cast-g-2 c = search needs
+
+write-stretch-requires : tie.Need-write-stretch-requires Inv-loop μ-loop
+write-stretch-requires c κs =
+    let l = c .before .before in
+    let s = c .before .before .before .before in
+    let (a, b) = number (s .args .count) (s .args .t2) (s .pre .0) (s .good .1 .0 .1 .0 .1) (s .pre .1) (l .loop .n) (omega arith) in
+    let e = same-size (take (s .args .count) (s .args .t2)) (s .args .columns) (now (s .args .out)) (l .loop .out) (l .loop .between) (l .loop .at) (l .loop .n) (l .loop .inv .1) (omega (arith, s .pre .3)) in
+    let p = place (take (s .args .count) (s .args .t2)) (s .args .columns) (now (s .args .out)) (l .loop .out) (l .loop .between) (l .loop .at) (l .loop .n) (l .loop .inv .1) (omega (arith, s .pre .3)) in
+    (l .loop .inv .1 .clifford, a, b, omega (arith, s .pre .3))
+
+right-of-requires : tie.Need-right-of-requires Inv-loop μ-loop
+right-of-requires c κs =
+    let l = c .before .before .before .before .before in
+    let s = c .before .before .before .before .before .before .before in
+    number (s .args .count) (s .args .t2) (s .pre .0) (s .good .1 .0 .1 .0 .1) (s .pre .1) (l .loop .n) (omega arith)
+
+add-n : tie.Need-add-n Inv-loop μ-loop
+add-n c = search needs
+
+loop-less : tie.Need-loop-less Inv-loop μ-loop
+loop-less c = search needs
+
+loop-again : tie.Need-loop-again Inv-loop μ-loop
+loop-again c =
+    let l = c .before .before .before .before .before .before in
+    let s = c .before .before .before .before .before .before .before .before in
+    let t = taken (s .args .count) (s .args .t2) (s .pre .0) (s .good .1 .0 .1 .0 .1) in
+    let n = number (s .args .count) (s .args .t2) (s .pre .0) (s .good .1 .0 .1 .0 .1) (s .pre .1) (l .loop .n) (omega arith) in
+    (search needs, rw (c .right-of .ensures) (turn (take (s .args .count) (s .args .t2)) (s .args .columns) (now (s .args .out)) (l .loop .out) (l .loop .between) (l .loop .at) (l .loop .n) (l .loop .inv .1) (omega (arith, s .pre .3)) _ _ _ (omega arith) (sym (getD-take (s .args .count) (s .args .t2) (l .loop .n) 0 (omega arith))) n (c .before .before .before .write-stretch .ensures)))
+
+compose-requires : tie.Need-compose-requires Inv-loop μ-loop
+compose-requires c κs =
+    let s = c .before .before .before in
+    columns-valid (s .args .columns) (s .pre .2 .permutation)
+
+write-clifford-requires : tie.Need-write-clifford-requires Inv-loop μ-loop
+write-clifford-requires c κs =
+    let l = c .before .before .before in
+    let s = c .before .before .before .before .before in
+    let q = subst IsClifford (sym (c .before .compose .ensures)) (composed-clifford (l .loop .between) (s .args .columns) (l .loop .inv .1 .clifford) (s .pre .2)) in
+    let e = same-size (take (s .args .count) (s .args .t2)) (s .args .columns) (now (s .args .out)) (l .loop .out) (l .loop .between) (l .loop .at) (l .loop .n) (l .loop .inv .1) (omega (arith, s .pre .3)) in
+    let p = place (take (s .args .count) (s .args .t2)) (s .args .columns) (now (s .args .out)) (l .loop .out) (l .loop .between) (l .loop .at) (l .loop .n) (l .loop .inv .1) (omega (arith, s .pre .3)) in
+    (q .permutation, q .even, omega (arith, s .pre .3))
+
+same-length : tie.Need-same-length Inv-loop μ-loop
+same-length c =
+    let l = c .before .before .before .before .before .before in
+    let s = c .before .before .before .before .before .before .before .before in
+    let e = same-size (take (s .args .count) (s .args .t2)) (s .args .columns) (now (s .args .out)) (l .loop .out) (l .loop .between) (l .loop .at) (l .loop .n) (l .loop .inv .1) (omega (arith, s .pre .3)) in
+    let p = place (take (s .args .count) (s .args .t2)) (s .args .columns) (now (s .args .out)) (l .loop .out) (l .loop .between) (l .loop .at) (l .loop .n) (l .loop .inv .1) (omega (arith, s .pre .3)) in
+    let w = word-length (c .before .before .before .before .compose .result) in
+    written-length (c .before .before .write-clifford .ensures) (omega (arith, s .pre .3)) ∙ e
+
+returns : tie.Need-returns Inv-loop μ-loop
+returns c =
+    let l = c .before .before .before .before .before .before in
+    let s = c .before .before .before .before .before .before .before .before in
+    let t = taken (s .args .count) (s .args .t2) (s .pre .0) (s .good .1 .0 .1 .0 .1) in
+    whole (take (s .args .count) (s .args .t2)) (s .args .columns) (now (s .args .out)) (l .loop .out) (l .loop .between) (l .loop .at) (l .loop .n) (l .loop .inv .1) (omega (arith, s .pre .3)) _ _ (omega arith)
+    (written-as (ap cliffordWord (c .before .before .before .before .compose .ensures)) (c .before .before .write-clifford .ensures))
+
+pub write-list-spec : {M : Type 1} → statement M
+write-list-spec =
+    tie.close
+    (tie.spec
+    Inv-loop
+    μ-loop
+    loop-holds
+    cast-g
+    array-read-g
+    cast-g-2
+    write-stretch-requires
+    right-of-requires
+    add-n
+    loop-less
+    loop-again
+    compose-requires
+    write-clifford-requires
+    same-length
+    returns)
