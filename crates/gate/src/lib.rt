@@ -13,14 +13,14 @@ ghost use Rattle.matrix.specs.Range.{tabulate};
 ghost use Rattle.matrix.specs.Matrix.{δ, entry, listed, product};
 ghost use Rattle.matrix.specs.Operator.{operator, Orthogonal};
 ghost use Rattle.matrix.specs.Array.{Bounded};
-ghost use Rattle.clifford.specs.Columns.{columnsMatrix, isColumnByte, arePermutation};
+ghost use Rattle.clifford.specs.Columns.{columnsMatrix, isColumnByte, areColumnBytes, arePermutation};
 ghost use Rattle.residue.specs.Generator.{generator};
 ghost use Rattle.gate.specs.Product.{image};
 ghost use Rattle.file.specs.File.{largestExponent};
 ghost use Rattle.reduction.specs.Laws.NormalForm.{Numbers};
 ghost use Rattle.word.specs.Gate.{gateOf};
 ghost use Rattle.word.specs.Written.{Written};
-ghost use Rattle.gate.specs.List.{IsClifford, leftOf, rightOf, stretch, gateList};
+ghost use Rattle.gate.specs.List.{leftOf, rightOf, stretch, gateList};
 ghost use Rattle.gate.specs.Reading.{multiplied, readByte, ReadAs, readFrom, reading, operatorAnswer, operatorBuffer};
 ghost use Rattle.gate.specs.Times.{partnerIn, partner, pairEntry, signedEntry};
 
@@ -319,7 +319,7 @@ fn right_of(g: usize) -> [u8; 6]
 
 // Writes the word of a Clifford times what is on the left of CS in generator g, and C, from `at` on; returns the place after it.
 fn write_stretch(columns: [u8; 6], g: usize, out: &mut [u8], at: usize) -> usize
-    requires { ⌜ IsClifford columns × (1 ≤ g) × (g ≤ 15) × (at + 33 ≤ length (now out)) ⌝ }
+    requires { ⌜ (1 ≤ g) × (g ≤ 15) × (at + 33 ≤ length (now out)) ⌝ }
     ensures { λ r. ⌜ Written (stretch columns g) at (now (out .entry)) (now (out .exit)) r ⌝ }
 {
     let product = word::compose(columns, left_of(g));
@@ -330,7 +330,7 @@ fn write_stretch(columns: [u8; 6], g: usize, out: &mut [u8], at: usize) -> usize
 
 // Writes the gate list of the first `count` generator numbers and a Clifford to the front of `out`; returns the number of its letters.
 pub fn write_list(count: u8, numbers: [u8; 60], columns: [u8; 6], out: &mut [u8]) -> usize
-    requires { ⌜ (count ≤ 60) × Numbers (take count numbers) × IsClifford columns × (256 * (count + 1) ≤ length (now out)) ⌝ }
+    requires { ⌜ (count ≤ 60) × Numbers (take count numbers) × (areColumnBytes columns ≡ true) × (256 * (count + 1) ≤ length (now out)) ⌝ }
     ensures { λ r. ⌜ Written (gateList (take count numbers) columns) 0 (now (out .entry)) (now (out .exit)) r ⌝ }
 {
     let mut between = [1u8, 2, 3, 4, 5, 6];

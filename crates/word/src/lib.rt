@@ -144,17 +144,6 @@ const INVERSES: [[u8; 6]; 16] = [
     [1, 2, 3, 4, 5, 6],
 ];
 
-// The row of a column's entry, counted from 0.
-fn row_of(b: u8) -> usize
-    requires { ⌜ isColumnByte b ≡ true ⌝ }
-    ensures { λ r. ⌜ r ≡ rowOf b ⌝ }
-{
-    if b <= 128 {
-        return (b - 1) as usize;
-    }
-    (b - 129) as usize
-}
-
 // The byte of −1 times a column.
 fn negate(b: u8) -> u8
     ensures { λ r. ⌜ r ≡ negated b ⌝ }
@@ -170,7 +159,8 @@ fn image(columns: [u8; 6], b: u8) -> u8
     requires { ⌜ isColumnByte b ≡ true ⌝ }
     ensures { λ r. ⌜ r ≡ imageOf columns b ⌝ }
 {
-    let c = columns[row_of(b)];
+    let row = clifford::row_of(b) as usize;
+    let c = columns[row];
     if 129 <= b {
         return negate(c);
     }
@@ -201,10 +191,9 @@ fn part_inverse(part: usize) -> [u8; 6]
 
 // 1 where a column's entry is in rows 1 to 3.
 fn low_bit(b: u8) -> usize
-    requires { ⌜ isColumnByte b ≡ true ⌝ }
     ensures { λ r. ⌜ (r ≡ bit (isLow b)) × (r < 2) ⌝ }
 {
-    if row_of(b) < 3 {
+    if clifford::row_of(b) < 3 {
         return 1;
     }
     0
@@ -212,7 +201,7 @@ fn low_bit(b: u8) -> usize
 
 // Which of three columns from column c on have their entry in rows 1 to 3.
 fn low_bits(columns: [u8; 6], c: usize) -> usize
-    requires { ⌜ (c ≤ 3) × areColumnBytes columns ≡ true ⌝ }
+    requires { ⌜ c ≤ 3 ⌝ }
     ensures { λ r. ⌜ (r ≡ lowBits columns c) × (r < 8) ⌝ }
 {
     4 * low_bit(columns[c]) + 2 * low_bit(columns[c + 1]) + low_bit(columns[c + 2])
@@ -220,7 +209,6 @@ fn low_bits(columns: [u8; 6], c: usize) -> usize
 
 // The columns that are left when both parts are taken off.
 fn local_columns(columns: [u8; 6]) -> [u8; 6]
-    requires { ⌜ areColumnBytes columns ≡ true ⌝ }
     ensures { λ r. ⌜ r ≡ localColumns columns ⌝ }
 {
     let first = part_inverse(low_bits(columns, 0));
@@ -231,10 +219,9 @@ fn local_columns(columns: [u8; 6]) -> [u8; 6]
 
 // 1 where the entry of column b stands above that of column a.
 fn inversion(a: u8, b: u8) -> usize
-    requires { ⌜ (isColumnByte a ≡ true) × (isColumnByte b ≡ true) ⌝ }
     ensures { λ r. ⌜ (r ≡ bit (ltb (rowOf b) (rowOf a))) × (r < 2) ⌝ }
 {
-    if row_of(b) < row_of(a) {
+    if clifford::row_of(b) < clifford::row_of(a) {
         return 1;
     }
     0
@@ -252,7 +239,6 @@ fn minus(b: u8) -> usize
 
 // Whether three columns of one half have determinant 1.
 fn is_even(a: u8, b: u8, c: u8) -> bool
-    requires { ⌜ (isColumnByte a ≡ true) × (isColumnByte b ≡ true) × (isColumnByte c ≡ true) ⌝ }
     ensures { λ r. ⌜ r ≡ isEven (a ∷ b ∷ c ∷ []) ⌝ }
 {
     let inversions = inversion(a, b) + inversion(a, c) + inversion(b, c);
@@ -262,10 +248,9 @@ fn is_even(a: u8, b: u8, c: u8) -> bool
 
 // The number of a signed row within its half; with the other sign where the half is not even.
 fn axis_number(even: bool, b: u8) -> usize
-    requires { ⌜ isColumnByte b ≡ true ⌝ }
     ensures { λ r. ⌜ (r ≡ axisNumber even b) × (r < 6) ⌝ }
 {
-    let row = row_of(b) % 3;
+    let row = (clifford::row_of(b) % 3) as usize;
     if 129 <= b {
         if even { row + 3 } else { row }
     } else {
@@ -275,7 +260,6 @@ fn axis_number(even: bool, b: u8) -> usize
 
 // The row of the rotation table.
 fn rotation_row(even: bool, b: u8, c: u8) -> usize
-    requires { ⌜ (isColumnByte b ≡ true) × (isColumnByte c ≡ true) ⌝ }
     ensures { λ r. ⌜ (r ≡ 6 * axisNumber even b + axisNumber even c) × (r < 36) ⌝ }
 {
     6 * axis_number(even, b) + axis_number(even, c)
@@ -317,7 +301,7 @@ fn write_rotation(row: usize, second: bool, out: &mut [u8], at: usize) -> usize
 
 // Writes both rotations.
 fn write_rotations(even: bool, local: [u8; 6], out: &mut [u8], at: usize) -> usize
-    requires { ⌜ (areColumnBytes local ≡ true) × (at + 12 ≤ length (now out)) ⌝ }
+    requires { ⌜ at + 12 ≤ length (now out) ⌝ }
     ensures { λ r. ⌜ Written (rotationsOf even local) at (now (out .entry)) (now (out .exit)) r ⌝ }
 {
     let first = rotation_row(even, local[0], local[1]);
@@ -336,7 +320,7 @@ fn write_part(part: usize, out: &mut [u8], at: usize) -> usize
 
 // Writes both parts.
 fn write_parts(columns: [u8; 6], out: &mut [u8], at: usize) -> usize
-    requires { ⌜ (areColumnBytes columns ≡ true) × (at + 14 ≤ length (now out)) ⌝ }
+    requires { ⌜ at + 14 ≤ length (now out) ⌝ }
     ensures { λ r. ⌜ Written (partsOf columns) at (now (out .entry)) (now (out .exit)) r ⌝ }
 {
     let first = low_bits(columns, 0);
@@ -360,7 +344,7 @@ fn write_sign(even: bool, out: &mut [u8], at: usize) -> usize
 
 // Writes the word of a Clifford into the buffer from `at` on and returns the place after it; the rest of the buffer stays.
 pub fn write_clifford(columns: [u8; 6], out: &mut [u8], at: usize) -> usize
-    requires { ⌜ (arePermutation columns ≡ true) × (isEven columns ≡ true) × (at + 32 ≤ length (now out)) ⌝ }
+    requires { ⌜ at + 32 ≤ length (now out) ⌝ }
     ensures { λ r. ⌜ Written (cliffordWord columns) at (now (out .entry)) (now (out .exit)) r ⌝ }
 {
     let local = local_columns(columns);

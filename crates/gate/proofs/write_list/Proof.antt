@@ -12,11 +12,9 @@ use Rattle.word.specs.declared.Gate.{Gate}
 use Rattle.word.specs.declared.Gate.the-variants.{Cs}
 use Rattle.word.specs.Word.{composed, cliffordWord}
 use Rattle.word.specs.Written.{Written}
-use Rattle.word.specs.Laws.Bytes.{columns-valid}
 use Rattle.word.specs.Laws.Word.{word-length}
 use Rattle.word.specs.Laws.Written.{written-as, written-none, written-length, written-append}
-use Rattle.gate.specs.List.{IsClifford, leftOf, rightOf, stretch, stretches, identityColumns, gateList}
-use Rattle.gate.specs.Laws.List.{identity-clifford, composed-clifford, both-cliffords}
+use Rattle.gate.specs.List.{leftOf, rightOf, stretch, stretches, identityColumns, gateList}
 use borrow.Author.Needs.{needs}
 use Rattle.gate.proofs.write_list.Statement.{statement}
 use Rattle.gate.proofs.write_list.Tie as tie
@@ -29,14 +27,13 @@ use Rattle.word.proofs.write_clifford.Reads as write-clifford-reads
 
 -- the letters w are written; what is left of the list begins with the Clifford `between`
 record Going (gs columns out₀ out between : List ℕ) (at n : ℕ) : Type 0 where
-  clifford : IsClifford between
   w : List Gate
   short : length w ≤ 24 * n
   written : Written w 0 out₀ out at
   rest : gateList gs columns ≡ w ++ stretches between (drop n gs) columns
 
 start : (gs columns out : List ℕ) → Going gs columns out out identityColumns 0 0
-start gs columns out = record { clifford = identity-clifford; w = []; short = omega arith; written = written-none 0 out; rest = refl }
+start gs columns out = record { w = []; short = omega arith; written = written-none 0 out; rest = refl }
 
 module _ (gs columns out₀ out between : List ℕ) (at n : ℕ) (s : Going gs columns out₀ out between at n) (h : 24 * n + 24 ≤ length out₀) where
   room : 0 + length (s .w) ≤ length out₀
@@ -49,12 +46,11 @@ module _ (gs columns out₀ out between : List ℕ) (at n : ℕ) (s : Going gs c
   place = let e = s .written .next in let l = s .short in omega arith
 
   -- a turn
-  turn : (g : ℕ) (new : List ℕ) (r : ℕ) → n < length gs → g ≡ getD gs n 0 → (1 ≤ g) × (g ≤ 15) → Written (stretch between g) at out new r → Going gs columns out₀ new (rightOf g) r (n + 1)
+  turn : (g : ℕ) (new : List ℕ) (r : ℕ) → n < length gs → g ≡ getD gs n 0 → Written (stretch between g) at out new r → Going gs columns out₀ new (rightOf g) r (n + 1)
   unfolding stretches
-  turn g new r u e (l, m) k =
+  turn g new r u e k =
       let d : drop n gs ≡ g ∷ drop (n + 1) gs = drop-cons gs n 0 u ∙ ap₂ (λ x y. x ∷ drop y gs) (sym e) (sym (add-one n)) in
       record {
-        clifford = both-cliffords g l m .1;
         w = s .w ++ stretch between g;
         short = let a = word-length (composed between (leftOf g)) in let b = s .short in let x = length-append (s .w) (stretch between g) in let y = length-append (cliffordWord (composed between (leftOf g))) (Cs ∷ []) in omega arith;
         written = written-append (s .written) room k;
@@ -102,7 +98,7 @@ write-stretch-requires c κs =
     let (a, b) = number (s .args .count) (s .args .t2) (s .pre .0) (s .good .1 .0 .1 .0 .1) (s .pre .1) (l .loop .n) (omega arith) in
     let e = same-size (take (s .args .count) (s .args .t2)) (s .args .columns) (now (s .args .out)) (l .loop .out) (l .loop .between) (l .loop .at) (l .loop .n) (l .loop .inv .1) (omega (arith, s .pre .3)) in
     let p = place (take (s .args .count) (s .args .t2)) (s .args .columns) (now (s .args .out)) (l .loop .out) (l .loop .between) (l .loop .at) (l .loop .n) (l .loop .inv .1) (omega (arith, s .pre .3)) in
-    (l .loop .inv .1 .clifford, a, b, omega (arith, s .pre .3))
+    (a, b, omega (arith, s .pre .3))
 
 right-of-requires : tie.Need-right-of-requires Inv-loop μ-loop
 right-of-requires c κs =
@@ -121,22 +117,20 @@ loop-again c =
     let l = c .before .before .before .before .before .before in
     let s = c .before .before .before .before .before .before .before .before in
     let t = taken (s .args .count) (s .args .t2) (s .pre .0) (s .good .1 .0 .1 .0 .1) in
-    let n = number (s .args .count) (s .args .t2) (s .pre .0) (s .good .1 .0 .1 .0 .1) (s .pre .1) (l .loop .n) (omega arith) in
-    (search needs, rw (c .right-of .ensures) (turn (take (s .args .count) (s .args .t2)) (s .args .columns) (now (s .args .out)) (l .loop .out) (l .loop .between) (l .loop .at) (l .loop .n) (l .loop .inv .1) (omega (arith, s .pre .3)) _ _ _ (omega arith) (sym (getD-take (s .args .count) (s .args .t2) (l .loop .n) 0 (omega arith))) n (c .before .before .before .write-stretch .ensures)))
+    (search needs, rw (c .right-of .ensures) (turn (take (s .args .count) (s .args .t2)) (s .args .columns) (now (s .args .out)) (l .loop .out) (l .loop .between) (l .loop .at) (l .loop .n) (l .loop .inv .1) (omega (arith, s .pre .3)) _ _ _ (omega arith) (sym (getD-take (s .args .count) (s .args .t2) (l .loop .n) 0 (omega arith))) (c .before .before .before .write-stretch .ensures)))
 
 compose-requires : tie.Need-compose-requires Inv-loop μ-loop
 compose-requires c κs =
     let s = c .before .before .before in
-    columns-valid (s .args .columns) (s .pre .2 .permutation)
+    s .pre .2
 
 write-clifford-requires : tie.Need-write-clifford-requires Inv-loop μ-loop
 write-clifford-requires c κs =
     let l = c .before .before .before in
     let s = c .before .before .before .before .before in
-    let q = subst IsClifford (sym (c .before .compose .ensures)) (composed-clifford (l .loop .between) (s .args .columns) (l .loop .inv .1 .clifford) (s .pre .2)) in
     let e = same-size (take (s .args .count) (s .args .t2)) (s .args .columns) (now (s .args .out)) (l .loop .out) (l .loop .between) (l .loop .at) (l .loop .n) (l .loop .inv .1) (omega (arith, s .pre .3)) in
     let p = place (take (s .args .count) (s .args .t2)) (s .args .columns) (now (s .args .out)) (l .loop .out) (l .loop .between) (l .loop .at) (l .loop .n) (l .loop .inv .1) (omega (arith, s .pre .3)) in
-    (q .permutation, q .even, omega (arith, s .pre .3))
+    omega (arith, s .pre .3)
 
 same-length : tie.Need-same-length Inv-loop μ-loop
 same-length c =

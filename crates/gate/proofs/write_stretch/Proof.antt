@@ -1,14 +1,13 @@
-use mathlib.Core.Path.{_≡_, ap, _∙_}
-use Prim.Native.Nat.{ℕ, _≤_}
+use mathlib.Core.Path.{ap, _∙_}
 use native.Mathlib.Omega.{arith}
-use mathlib.Core.List.{List, [], _∷_, _++_}
+use mathlib.Core.List.{[], _∷_, _++_}
 use Rattle.word.specs.declared.Gate.the-variants.{Cs}
 use Rattle.word.specs.Word.{composed, cliffordWord}
 use Rattle.word.specs.Laws.Bytes.{columns-valid}
 use Rattle.word.specs.Laws.Word.{word-length}
 use Rattle.word.specs.Laws.Written.{written-as, written-one, written-length, written-append}
-use Rattle.gate.specs.List.{IsClifford, leftOf}
-use Rattle.gate.specs.Laws.List.{composed-clifford, both-cliffords}
+use Rattle.gate.specs.List.{leftOf}
+use Rattle.gate.specs.Laws.List.{both-cliffords}
 use borrow.Author.Needs.{needs}
 use Rattle.gate.proofs.write_stretch.Statement.{statement}
 use Rattle.gate.proofs.write_stretch.Tie as tie
@@ -18,41 +17,34 @@ use Rattle.gate.proofs.left_of.Reads as left-of-reads
 use Rattle.word.proofs.compose.Reads as compose-reads
 use Rattle.word.proofs.write_clifford.Reads as write-clifford-reads
 
--- the product is a Clifford
-product : (g : ℕ) → 1 ≤ g → g ≤ 15 → (bs l p : List ℕ) → IsClifford bs → l ≡ leftOf g → p ≡ composed bs l → IsClifford p
-product g h u bs l p b e q = rw (q, e) (composed-clifford bs (leftOf g) b (both-cliffords g h u .0))
-
 left-of-requires : tie.Need-left-of-requires
 left-of-requires c κs = search needs
 
 compose-requires : tie.Need-compose-requires
 compose-requires c κs =
     let s = c .before .before in
-    rw (c .left-of .ensures) (columns-valid (leftOf (s .args .g)) (both-cliffords (s .args .g) (s .pre .1) (s .pre .2) .0 .permutation))
+    rw (c .left-of .ensures) (columns-valid (leftOf (s .args .g)) (both-cliffords (s .args .g) (s .pre .0) (s .pre .1) .0 .permutation))
 
 write-clifford-requires : tie.Need-write-clifford-requires
-write-clifford-requires c κs =
-    let s = c .before .before .before .before in
-    let q = product (s .args .g) (s .pre .1) (s .pre .2) _ _ _ (s .pre .0) (c .before .before .left-of .ensures) (c .before .compose .ensures) in
-    (q .permutation, q .even, omega (arith, s .pre .3))
+write-clifford-requires c κs = let s = c .before .before .before .before in omega (arith, s .pre .2)
 
 slice-write-out : tie.Need-slice-write-out
 slice-write-out c =
     let w = c .before .before in
     let s = c .before .before .before .before .before .before .before in
     let n = word-length (w .before .before .compose .result) in
-    let l = written-length (w .write-clifford .ensures) (omega (arith, s .pre .3)) in
+    let l = written-length (w .write-clifford .ensures) (omega (arith, s .pre .2)) in
     let e = w .write-clifford .ensures .next in
-    omega (arith, s .pre .3)
+    omega (arith, s .pre .2)
 
 add-result : tie.Need-add-result
 add-result c =
     let w = c .before .before in
     let s = c .before .before .before .before .before .before .before in
     let n = word-length (w .before .before .compose .result) in
-    let l = written-length (w .write-clifford .ensures) (omega (arith, s .pre .3)) in
+    let l = written-length (w .write-clifford .ensures) (omega (arith, s .pre .2)) in
     let e = w .write-clifford .ensures .next in
-    record { fits = omega (arith, s .pre .3, s .good .1 .1 .0 .0) }
+    record { fits = omega (arith, s .pre .2, s .good .1 .1 .0 .0) }
 
 same-length : tie.Need-same-length
 same-length c = search needs
@@ -62,10 +54,10 @@ returns c =
     let w = c .before .before in
     let s = c .before .before .before .before .before .before .before in
     let n = word-length (w .before .before .compose .result) in
-    let l = written-length (w .write-clifford .ensures) (omega (arith, s .pre .3)) in
+    let l = written-length (w .write-clifford .ensures) (omega (arith, s .pre .2)) in
     let e = w .write-clifford .ensures .next in
     written-as (ap (λ x. cliffordWord x ++ Cs ∷ []) (w .before .before .compose .ensures ∙ ap (composed (s .args .columns)) (w .before .before .before .left-of .ensures)))
-    (written-append (w .write-clifford .ensures) (omega (arith, s .pre .3)) (written-one Cs _ _ (omega (arith, s .pre .3))))
+    (written-append (w .write-clifford .ensures) (omega (arith, s .pre .2)) (written-one Cs _ _ (omega (arith, s .pre .2))))
 
 pub write-stretch-spec : {M : Type 1} → statement M
 write-stretch-spec =

@@ -27,7 +27,7 @@ use Rattle.word.specs.declared.Gate.{Gate}
 use Rattle.word.specs.declared.Gate.the-variants.{H1, H2, S1, S2, Cz, Cs}
 use Rattle.word.specs.Gate.{wordMatrix, isCs, number}
 use Rattle.word.specs.Word.{composed, cliffordWord}
-use Rattle.word.specs.Laws.Matrix.{composed-matrix, composed-permutation}
+use Rattle.word.specs.Laws.Matrix.{composed-matrix, composed-permutation, unit-matrix}
 use Rattle.word.specs.Laws.Word.{number-append, word-length, word-cs, word-matrix}
 use Rattle.gate.specs.Product.{image, productOf, MultipliesTo, csGates}
 use Rattle.gate.specs.List.{IsClifford, lefts, rights, leftOf, rightOf, generatorWord, stretches, identityColumns, gateList}
@@ -192,23 +192,11 @@ pub identity-clifford : IsClifford identityColumns
 unfolding arePermutation isEven
 identity-clifford = record { permutation = refl; even = refl }
 
-isUnit : Bool
-unfolding δ
-isUnit = everywhere (λ r c. equals (columnsMatrix identityColumns r c) (δ r c))
-
-is-unit : isUnit ≡ true
-unfolding isUnit everyFrom δ
-is-unit = refl
-
-identity-matrix : Same 6 (columnsMatrix identityColumns) δ
-unfolding isUnit
-identity-matrix r c hr hc = equals-eq _ _ (everywhere-sound (λ r c. equals (columnsMatrix identityColumns r c) (δ r c)) is-unit r c hr hc)
-
 -- the product with the identity on the left
 identity-times : (A : Operator) → SameOperator (timesOperator (clifford identityColumns) A) A
 identity-times A =
     same-operator-of (timesOperator (clifford identityColumns) A) A (omega arith)
-    (λ r c hr hc. product-cong identity-matrix (same-refl 6 (A .matrix)) r c hr hc ∙ product-id-l 6 (A .matrix) r c hr hc)
+    (λ r c hr hc. product-cong (λ r c hr hc. sym (unit-matrix r c hr hc)) (same-refl 6 (A .matrix)) r c hr hc ∙ product-id-l 6 (A .matrix) r c hr hc)
 
 pub list-of : (k : ℕ) (m : List ℤ) → Orthogonal (operator k (entry m)) → Proper (operator k (entry m)) → Listed k m (listOf k m)
 list-of k m o p =

@@ -8,18 +8,18 @@ use native.Mathlib.Omega.{arith}
 use lib.Dec.{T, eqb, ltb, eqb-refl, ltb→lt, T-not}
 use lib.IntN.{ℤ, pos, negsuc, _*ℤ_, _-ℤ_}
 use lib.Signed.{_<ℤ_}
-use Rattle.matrix.specs.Range.{sum, everyFrom}
+use Rattle.matrix.specs.Range.{everyFrom}
 use Rattle.matrix.specs.Integer.{equals}
 use Rattle.matrix.specs.Matrix.{Matrix, Same, δ, product, combined, replaced}
-use Rattle.matrix.specs.Array.{everywhere, isOrthogonal}
+use Rattle.matrix.specs.Array.{everywhere}
 use Rattle.matrix.specs.Determinant.{det}
 use Rattle.matrix.specs.Operator.{Operator, operator, timesOperator, SameOperator, Orthogonal, Proper, LeastExponent}
 use Rattle.matrix.specs.Laws.Test.{left, right, T-true, true-T}
 use Rattle.matrix.specs.Laws.Integer.{times-positive, equals-eq, *ℤ-unit-l}
-use Rattle.matrix.specs.Laws.Matrix.{product-cong, product-id-l, same-refl}
+use Rattle.matrix.specs.Laws.Matrix.{orthogonal-δ, product-cong, product-id-l, same-refl}
 use Rattle.matrix.specs.Laws.Determinant.{det-cong, det-combined, det-identity, combined-cong, combined-product}
 use Rattle.matrix.specs.Laws.Operator.{same-operator-refl, same-operator-sym, same-operator-trans, same-operator-of, times-same, times-assoc, times-orthogonal, same-orthogonal, same-proper}
-use Rattle.matrix.specs.Laws.Array.{everywhere-sound, orthogonal-sound}
+use Rattle.matrix.specs.Laws.Array.{everywhere-sound}
 use Rattle.clifford.specs.Columns.{columnsMatrix, arePermutation}
 use Rattle.clifford.specs.Laws.Columns.{permutation-sound, columns-orthogonal}
 use Rattle.residue.specs.Laws.Generator.{generator-orthogonal, generator-product, turned-det}
@@ -62,13 +62,9 @@ image-orthogonal S2 = clifford-orthogonal (columns S2) refl
 image-orthogonal Cz = clifford-orthogonal (columns Cz) refl
 image-orthogonal Cs = generator-orthogonal 3 (omega arith) (omega arith)
 
-identity-orthogonal : Orthogonal (operator 0 δ)
-unfolding everyFrom sum δ isOrthogonal
-identity-orthogonal = orthogonal-sound 0 δ refl
-
 pub product-orthogonal : (w : List Gate) → Orthogonal (productOf w)
 unfolding productOf
-product-orthogonal [] = identity-orthogonal
+product-orthogonal [] = record { rows = orthogonal-δ 6 }
 product-orthogonal (g ∷ w) = times-orthogonal (image-orthogonal g) (product-orthogonal w)
 
 -- ---- proper: an image is a list of row operations, each of determinant 1, or generator 3, of determinant 8

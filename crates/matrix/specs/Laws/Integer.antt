@@ -7,7 +7,7 @@ use Prim.Native.Nat.{ℕ, zero, suc, _+_, _*_, _-_, _<_, _≤_}
 use native.Mathlib.Nat.{mul-pos, mul-le-mul}
 use native.Mathlib.Omega.{arith}
 use lib.Dec.{T, ltb, ltb→lt, lt→ltb, nltb→le}
-use lib.IntN.{ℤ, pos, negsuc, sucℤ, predℤ, negℤ, natAbs, one, subℕ, _+ℤ_, _-ℤ_, _*ℤ_, +ℤ-idl, +ℤ-assoc, +ℤ-comm, +ℤ-invr, negℤ-negℤ, negℤ-+ℤ, +ℤ-negℤ-cancel, -ℤ-+ℤ-cancel, zero-*ℤ, *ℤ-one, *ℤ-comm, sucℤ-*ℤ, predℤ-*ℤ, sucℤ-+ℤ, predℤ-+ℤ}
+use lib.IntN.{ℤ, pos, negsuc, sucℤ, predℤ, negℤ, natAbs, one, subℕ, _+ℤ_, _-ℤ_, _*ℤ_, +ℤ-idl, +ℤ-assoc, +ℤ-comm, +ℤ-invr, negℤ-negℤ, negℤ-+ℤ, -ℤ-+ℤ-cancel, zero-*ℤ, *ℤ-one, *ℤ-comm, sucℤ-*ℤ, predℤ-*ℤ, sucℤ-+ℤ, predℤ-+ℤ}
 use lib.Signed.{leZ, ltZ, _<ℤ_}
 use borrow.Author.Tests.{eq-eqb, eqb-true, ltb-true, ltb-false, lt-leb, le-leb}
 use Rattle.matrix.specs.Integer.{equals}
@@ -72,9 +72,6 @@ pub *ℤ-left-comm : (a b c : ℤ) → a *ℤ (b *ℤ c) ≡ b *ℤ (a *ℤ c)
 
 -- sorts products
 pub ruleset prodℤ = (*ℤ-assoc, *ℤ-comm, *ℤ-left-comm)
-
-pub *ℤ-swap : (a b c d : ℤ) → (a *ℤ b) *ℤ (c *ℤ d) ≡ (a *ℤ c) *ℤ (b *ℤ d)
-*ℤ-swap a b c d = simp prodℤ
 
 -- multiplies out and sorts; what cancels is left to the solver `ring`
 pub ruleset ringℤ = (*ℤ-distr-r, *ℤ-distr-l, negℤ-*ℤ-l, negℤ-*ℤ-r, negℤ-+ℤ, prodℤ, sumℤ)
@@ -159,9 +156,6 @@ sub-zero→eq a b h = sym (-ℤ-+ℤ-cancel a b) ∙ ap (λ x. x +ℤ b) h ∙ +
 
 pub eq→sub-zero : {a b : ℤ} → a ≡ b → a -ℤ b ≡ pos zero
 eq→sub-zero {a} {b} h = ap (λ x. x -ℤ b) h ∙ +ℤ-invr b
-
-pub +ℤ-cancel-r : (a b c : ℤ) → a +ℤ c ≡ b +ℤ c → a ≡ b
-+ℤ-cancel-r a b c h = sym (+ℤ-negℤ-cancel a c) ∙ ap (λ x. x -ℤ c) h ∙ +ℤ-negℤ-cancel b c
 
 pub *ℤ-cancel-l : (a b c : ℤ) → c ≢ pos zero → c *ℤ a ≡ c *ℤ b → a ≡ b
 *ℤ-cancel-l a b c nz h =

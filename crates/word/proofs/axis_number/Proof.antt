@@ -8,6 +8,9 @@ use Rattle.word.proofs.axis_number.Tie as tie
 row-of-requires : tie.Need-row-of-requires
 row-of-requires c κs = search needs
 
+cast-row : tie.Need-cast-row
+cast-row c = search needs
+
 add-result : tie.Need-add-result
 add-result c = search needs
 
@@ -27,4 +30,4 @@ returns-4 : tie.Need-returns-4
 returns-4 c = (simp (c .before .before .row-of .ensures, lt-leb _ _ (c .before .if1 .left), c .if3 .left), omega arith)
 
 pub axis-number-spec : {M : Type 1} → statement M
-axis-number-spec = tie.close (tie.spec row-of-requires add-result add-result-2 returns returns-2 returns-3 returns-4)
+axis-number-spec = tie.close (tie.spec row-of-requires cast-row add-result add-result-2 returns returns-2 returns-3 returns-4)

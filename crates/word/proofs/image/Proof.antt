@@ -5,12 +5,15 @@ use borrow.Author.Tests.{le-leb, lt-leb}
 use native.Mathlib.Omega.{arith}
 use lib.ListN.{getD}
 use Rattle.word.specs.Word.{negated}
-use Rattle.word.specs.Laws.Bytes.{row-lt}
+use Rattle.clifford.specs.Laws.Columns.{row-lt}
 use Rattle.word.proofs.image.Statement.{statement}
 use Rattle.word.proofs.image.Tie as tie
 
 row-of-requires : tie.Need-row-of-requires
 row-of-requires c κs = search needs
+
+cast-row : tie.Need-cast-row
+cast-row c = search needs
 
 array-read-c : tie.Need-array-read-c
 array-read-c c = omega (arith, row-lt (c .before .args .b) (c .before .pre))
@@ -29,4 +32,4 @@ returns-2 c =
     simp (lt-leb _ _ (c .if1 .left)) (ap (λ x. getD (r .before .args .t1) x 0) (r .row-of .ensures))
 
 pub image-spec : {M : Type 1} → statement M
-image-spec = tie.close (tie.spec row-of-requires array-read-c negate-requires returns returns-2)
+image-spec = tie.close (tie.spec row-of-requires cast-row array-read-c negate-requires returns returns-2)

@@ -1,7 +1,5 @@
 -- Each of the three columns is one of the six, so its byte is a column's.
 use borrow.Author.Needs.{needs}
-use native.Mathlib.Omega.{arith}
-use Rattle.word.specs.Laws.Bytes.{byte-in}
 use Rattle.word.proofs.low_bits.Statement.{statement}
 use Rattle.word.proofs.low_bits.Tie as tie
 
@@ -9,7 +7,7 @@ array-read-low-bit : tie.Need-array-read-low-bit
 array-read-low-bit c = search needs
 
 low-bit-requires : tie.Need-low-bit-requires
-low-bit-requires c κs = let l = c .good .0 .1 .0 .1 in byte-in (c .args .t1) (c .pre .1) _ (omega arith)
+low-bit-requires c κs = search needs
 
 mul-result : tie.Need-mul-result
 mul-result c = search needs
@@ -21,7 +19,7 @@ array-read-low-bit-2 : tie.Need-array-read-low-bit-2
 array-read-low-bit-2 c = search needs
 
 low-bit-requires-2 : tie.Need-low-bit-requires-2
-low-bit-requires-2 c κs = let l = c .before .good .0 .1 .0 .1 in byte-in (c .before .args .t1) (c .before .pre .1) _ (omega arith)
+low-bit-requires-2 c κs = search needs
 
 mul-result-2 : tie.Need-mul-result-2
 mul-result-2 c = search needs
@@ -36,7 +34,7 @@ array-read-low-bit-3 : tie.Need-array-read-low-bit-3
 array-read-low-bit-3 c = search needs
 
 low-bit-requires-3 : tie.Need-low-bit-requires-3
-low-bit-requires-3 c κs = let l = c .before .before .good .0 .1 .0 .1 in byte-in (c .before .before .args .t1) (c .before .before .pre .1) _ (omega arith)
+low-bit-requires-3 c κs = search needs
 
 add-result-2 : tie.Need-add-result-2
 add-result-2 c = search needs

@@ -9,14 +9,13 @@ use lib.ListN.{length, length-append}
 use Rattle.word.specs.declared.Gate.{Gate}
 use Rattle.word.specs.Word.{isEvenHalf, rotationsOf, partsOf, signWord, unsignedWord, cliffordWord}
 use Rattle.word.specs.Written.{Written}
-use Rattle.word.specs.Laws.Bytes.{columns-valid}
-use Rattle.word.specs.Laws.Word.{rotations-length, parts-length, local-valid, local-byte}
+use Rattle.word.specs.Laws.Word.{rotations-length, parts-length}
 use Rattle.word.specs.Laws.Written.{written-as, written-length, written-append}
 use Rattle.word.proofs.write_clifford.Statement.{statement}
 use Rattle.word.proofs.write_clifford.Tie as tie
 
 local-columns-requires : tie.Need-local-columns-requires
-local-columns-requires c κs = columns-valid (c .before .args .columns) (c .before .pre .0)
+local-columns-requires c κs = search needs
 
 array-read-is-even : tie.Need-array-read-is-even
 array-read-is-even c = search needs
@@ -28,16 +27,13 @@ array-read-is-even-3 : tie.Need-array-read-is-even-3
 array-read-is-even-3 c = search needs
 
 is-even-requires : tie.Need-is-even-requires
-is-even-requires c κs =
-    let s = c .before .before in
-    let at = local-byte (s .args .columns) (s .pre .0) in
-    rw (c .local-columns .ensures) (at 0 (omega arith), at 1 (omega arith), at 2 (omega arith))
+is-even-requires c κs = search needs
 
 write-rotations-requires : tie.Need-write-rotations-requires
 write-rotations-requires c κs =
     let l = c .before .before in
     let s = l .before .before in
-    (rw (l .local-columns .ensures) (local-valid (s .args .columns) (s .pre .0)), omega (arith, s .pre .2))
+    omega (arith, s .pre)
 
 -- what is written where the rotations are, and where the parts are too
 abbrev rotations : tie.After-write-rotations → List Gate
@@ -46,7 +42,7 @@ rotations c = rotationsOf (c .before .before .is-even .result) (c .before .befor
 rotations-room : (c : tie.After-write-rotations) → let s = c .before .before .before .before .before in s .args .at + length (rotations c) ≤ length (now (s .args .out))
 rotations-room c =
     let n = rotations-length (c .before .before .is-even .result) (c .before .before .before .local-columns .result) in
-    omega (arith, c .before .before .before .before .before .pre .2)
+    omega (arith, c .before .before .before .before .before .pre)
 
 abbrev unsigned : tie.After-write-parts → List Gate
 unsigned c = let w = c .before .before .before .before in rotations w ++ partsOf (w .before .before .before .before .before .args .columns)
@@ -59,7 +55,7 @@ unsigned-length c =
     omega (arith, length-append (rotations w) (partsOf (w .before .before .before .before .before .args .columns)))
 
 unsigned-room : (c : tie.After-write-parts) → let s = c .before .before .before .before .before .before .before .before .before in s .args .at + length (unsigned c) ≤ length (now (s .args .out))
-unsigned-room c = let n = unsigned-length c in omega (arith, c .before .before .before .before .before .before .before .before .before .pre .2)
+unsigned-room c = let n = unsigned-length c in omega (arith, c .before .before .before .before .before .before .before .before .before .pre)
 
 unsigned-written : (c : tie.After-write-parts)
     → let s = c .before .before .before .before .before .before .before .before .before in
@@ -73,7 +69,7 @@ write-parts-requires c κs =
     let n = rotations-length (w .before .before .is-even .result) (w .before .before .before .local-columns .result) in
     let l = written-length (w .write-rotations .ensures) (rotations-room w) in
     let e = w .write-rotations .ensures .next in
-    (columns-valid (s .args .columns) (s .pre .0), omega (arith, s .pre .2))
+    omega (arith, s .pre)
 
 write-sign-requires : tie.Need-write-sign-requires
 write-sign-requires c κs =
@@ -82,7 +78,7 @@ write-sign-requires c κs =
     let n = unsigned-length p in
     let l = written-length (unsigned-written p) (unsigned-room p) in
     let e = unsigned-written p .next in
-    omega (arith, s .pre .2)
+    omega (arith, s .pre)
 
 same-length : tie.Need-same-length
 same-length c = search needs

@@ -8,7 +8,6 @@ use borrow.Author.Needs.{needs}
 use denote.Ref.{now}
 use lib.ListN.{length, getD}
 use Rattle.word.specs.Word.{rotationWords, onQubit}
-use Rattle.word.specs.Laws.Bytes.{byte-in}
 use Rattle.word.specs.Laws.Word.{rotation-length}
 use Rattle.word.specs.Laws.Written.{written-as, written-length, written-append}
 use Rattle.word.proofs.write_rotations.Statement.{statement}
@@ -21,10 +20,7 @@ array-read-rotation-row-2 : tie.Need-array-read-rotation-row-2
 array-read-rotation-row-2 c = search needs
 
 rotation-row-requires : tie.Need-rotation-row-requires
-rotation-row-requires c κs =
-    let s = c .before in
-    let l = s .good .1 .0 .1 .0 .1 in
-    (byte-in (s .args .t2) (s .pre .0) 0 (omega arith), byte-in (s .args .t2) (s .pre .0) 1 (omega arith))
+rotation-row-requires c κs = search needs
 
 array-read-rotation-row-3 : tie.Need-array-read-rotation-row-3
 array-read-rotation-row-3 c = search needs
@@ -33,10 +29,7 @@ array-read-rotation-row-4 : tie.Need-array-read-rotation-row-4
 array-read-rotation-row-4 c = search needs
 
 rotation-row-requires-2 : tie.Need-rotation-row-requires-2
-rotation-row-requires-2 c κs =
-    let s = c .before .before in
-    let l = s .good .1 .0 .1 .0 .1 in
-    (byte-in (s .args .t2) (s .pre .0) 3 (omega arith), byte-in (s .args .t2) (s .pre .0) 4 (omega arith))
+rotation-row-requires-2 c κs = search needs
 
 write-rotation-requires : tie.Need-write-rotation-requires
 write-rotation-requires c κs = search needs
@@ -48,10 +41,10 @@ write-rotation-requires-2 c κs =
     let s = b .before .before .before in
     let k = b .before .rotation-row .result in
     let n = rotation-length false k in
-    let f : s .args .at + length (onQubit false (getD rotationWords k [])) ≤ length (now (s .args .out)) = omega (arith, s .pre .1) in
+    let f : s .args .at + length (onQubit false (getD rotationWords k [])) ≤ length (now (s .args .out)) = omega (arith, s .pre) in
     let l = written-length (w .write-rotation .ensures) f in
     let e = w .write-rotation .ensures .next in
-    (search needs, omega (arith, s .pre .1))
+    (search needs, omega (arith, s .pre))
 
 same-length : tie.Need-same-length
 same-length c = search needs
@@ -64,7 +57,7 @@ returns c =
     let s = b .before .before .before in
     let k = b .before .rotation-row .result in
     let n = rotation-length false k in
-    let f : s .args .at + length (onQubit false (getD rotationWords k [])) ≤ length (now (s .args .out)) = omega (arith, s .pre .1) in
+    let f : s .args .at + length (onQubit false (getD rotationWords k [])) ≤ length (now (s .args .out)) = omega (arith, s .pre) in
     written-as
     (ap₂ (λ j k. onQubit false (getD rotationWords j []) ++ onQubit true (getD rotationWords k [])) (b .before .rotation-row .ensures .0) (b .rotation-row2 .ensures .0))
     (written-append (w .write-rotation .ensures) f (v .write-rotation2 .ensures))

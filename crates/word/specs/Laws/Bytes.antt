@@ -5,9 +5,9 @@ use mathlib.Core.Bool.{Bool, true, false, not, _&&_, _||_}
 use mathlib.Core.List.{List, [], _∷_}
 use Prim.Native.Nat.{ℕ, zero, suc, _+_, _-_, _<_, _≤_}
 use native.Mathlib.Omega.{arith}
-use lib.Dec.{eqb, leb, ltb}
+use lib.Dec.{eqb, leb}
 use lib.ListN.{getD, length}
-use borrow.Author.Tests.{eqb-true, leb-true, ltb-true}
+use borrow.Author.Tests.{eqb-true, leb-true}
 use Rattle.clifford.specs.Columns.{rowOf, isMinus, isColumnByte, areColumnBytes, arePermutation}
 use Rattle.word.specs.Word.{bit, negated, imageOf, composed}
 use Rattle.word.specs.Laws.Signed.{Axis, e1, e2, e3, e4, e5, e6, Column, col, Perm, perm, turned, apply, times, rowNumber, toByte, fromByte, bytes, fromBytes}
@@ -80,14 +80,6 @@ to-from b v = go (leb 1 b && leb b 6) refl v
     go : (t : Bool) → (leb 1 b && leb b 6) ≡ t → (t || (leb 129 b && leb b 134)) ≡ true → P b
     go true e w = plus (leb-true 1 b (and-left (leb 1 b) (leb b 6) e)) (leb-true b 6 (and-right (leb 1 b) (leb b 6) e))
     go false e w = less (leb-true 129 b (and-left (leb 129 b) (leb b 134) w)) (leb-true b 134 (and-right (leb 129 b) (leb b 134) w))
-
-pub byte-positive : (b : ℕ) → isColumnByte b ≡ true → 1 ≤ b
-unfolding everyColumn everyAxis everyBool
-byte-positive b v = leb-true 1 b (subst (λ x. leb 1 x ≡ true) (to-from b v) (every-column (λ c. leb 1 (toByte c)) refl (fromByte b)))
-
-pub row-lt : (b : ℕ) → isColumnByte b ≡ true → rowOf b < 6
-unfolding everyColumn everyAxis everyBool
-row-lt b v = ltb-true _ 6 (subst (λ x. ltb (rowOf x) 6 ≡ true) (to-from b v) (every-column (λ c. ltb (rowOf (toByte c)) 6) refl (fromByte b)))
 
 pub byte-in : (bs : List ℕ) → areColumnBytes bs ≡ true → (k : ℕ) → k < length bs → isColumnByte (getD bs k 0) ≡ true
 byte-in [] v k h = absurd (omega arith)

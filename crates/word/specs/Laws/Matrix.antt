@@ -123,7 +123,7 @@ unit? : ℕ → ℕ → Bool
 unfolding δ
 unit? i j = equals (δ i j) (columnsMatrix (bytes unit) i j)
 
-unit-matrix : Same 6 δ (columnsMatrix (bytes unit))
+pub unit-matrix : Same 6 δ (columnsMatrix (bytes unit))
 unfolding everyFrom unit?
 unit-matrix i j hi hj = equals-eq _ _ (every-sound 6 (unit? i) (every-sound 6 (λ i. every 6 (unit? i)) refl i hi) j hj)
 

@@ -2,21 +2,21 @@
 use mathlib.Core.Path.{_≡_, refl, sym, ap, ap₂, subst, _∙_}
 use mathlib.Core.Bool.{Bool, true, false, not, cond, _&&_}
 use mathlib.Core.List.{List, [], _∷_, _++_, map}
-use Prim.Native.Nat.{ℕ, zero, suc, _+_, _*_, _%_, _≤_, _<_}
+use Prim.Native.Nat.{ℕ, zero, suc, _+_, _*_, _%_, _≤_}
 use native.Mathlib.Omega.{arith}
 use lib.Dec.{eqb, leb}
 use lib.ListN.{getD, length, length-append}
 use borrow.Author.Tests.{eqb-true, leb-true}
 use Rattle.matrix.specs.Matrix.{Same}
-use Rattle.clifford.specs.Columns.{columnsMatrix, isColumnByte, areColumnBytes, different, inversions, isEven, arePermutation}
+use Rattle.clifford.specs.Columns.{columnsMatrix, areColumnBytes, different, inversions, isEven, arePermutation}
 use Rattle.word.specs.declared.Gate.{Gate}
 use Rattle.word.specs.Gate.{wordMatrix, isCz, isCs, number}
 use Rattle.word.specs.Word.{bit, isLow, partWords, rotationWords, localColumns, onSecond, onQubit, rotationsOf, partsOf, halvesEven, unsignedWord, signWord, cliffordWord, crossings}
 use Rattle.word.specs.Laws.Signed.{Perm, bytes, fromBytes, evaluated}
 use Rattle.word.specs.Laws.Every.{and-left, and-right, everyBool, every-bool}
-use Rattle.word.specs.Laws.Bytes.{byte-in, bytes-valid, bytes-from, six}
+use Rattle.word.specs.Laws.Bytes.{bytes-from}
 use Rattle.word.specs.Laws.Finite.{rows-bytes, minuses-bytes}
-use Rattle.word.specs.Laws.Decomposition.{local, local-bytes, Proper, decomposes}
+use Rattle.word.specs.Laws.Decomposition.{Proper, decomposes}
 use Rattle.word.specs.Laws.Matrix.{evaluated-matrix}
 
 -- ---- letters of a word
@@ -131,19 +131,6 @@ word-cs bs = word-has bs .no-cs
 -- a Z for each column that crosses, and two where the sign is −1
 pub word-z : (bs : List ℕ) → number isCz (cliffordWord bs) ≡ crossings bs + cond (halvesEven bs) 0 2
 word-z bs = word-has bs .zs ∙ omega arith
-
--- ---- the columns that are left when its parts are taken off
-
-pub local-valid : (bs : List ℕ) → arePermutation bs ≡ true → areColumnBytes (localColumns bs) ≡ true
-local-valid bs p =
-    let b : bytes (fromBytes bs) ≡ bs = bytes-from bs p in
-    subst (λ x. areColumnBytes (localColumns x) ≡ true) b (rw (local-bytes (fromBytes bs)) (bytes-valid (local (fromBytes bs))))
-
--- six of them
-pub local-byte : (bs : List ℕ) → arePermutation bs ≡ true → (k : ℕ) → k < 6 → isColumnByte (getD (localColumns bs) k 0) ≡ true
-local-byte bs p k h =
-    let l : length (localColumns bs) ≡ 6 = ap (λ x. length (localColumns x)) (sym (bytes-from bs p)) ∙ ap length (local-bytes (fromBytes bs)) ∙ six (local (fromBytes bs)) in
-    byte-in (localColumns bs) (local-valid bs p) k (omega arith)
 
 -- ---- what it multiplies to
 
