@@ -1,0 +1,36 @@
+-- Operator files handed in (document 01, "The maker of an operator file").
+use mathlib.Core.Bool.{Bool, not, cond}
+use mathlib.Core.List.{List}
+use Prim.Native.Nat.{ℕ}
+use lib.Dec.{eqb, ltb}
+use lib.IntN.{pos}
+use lib.ListN.{length}
+use lib.Signed.{ltZ}
+use Rattle.matrix.specs.Matrix.{Matrix, entry}
+use Rattle.matrix.specs.Determinant.{det}
+use Rattle.matrix.specs.Operator.{Operator, operator}
+use Rattle.matrix.specs.Array.{isWithin, isOrthogonal}
+use Rattle.file.specs.File.{largestExponent, fileLength, fileExponent, fileMatrix}
+
+-- the operator of a file
+abbrev pub fileOperator : List ℕ → Operator
+fileOperator b = operator (fileExponent b) (entry (fileMatrix b))
+
+-- "It is proper if the determinant of M is positive"
+abbrev pub isProper : Matrix → Bool
+isProper M = ltZ (pos 0) (det 6 M)
+
+-- the refusals for a file's entries, in their order: "3: an entry whose square exceeds 2 to the power k", "4: not orthogonal", "5: orthogonal,
+-- not proper". 0 is none
+abbrev pub entriesRefusal : Operator → ℕ
+entriesRefusal A =
+    cond (not (isWithin (A .exponent) (A .matrix))) 3
+    (cond (not (isOrthogonal (A .exponent) (A .matrix))) 4
+    (cond (not (isProper (A .matrix))) 5 0))
+
+-- all of a file's refusals: "1: length not 73", "2: k above 28", then those for its entries. "An operator is accepted if its file earns none
+-- of 1 to 5"
+unfoldable pub fileRefusal : List ℕ → ℕ
+fileRefusal b =
+    cond (not (eqb (length b) fileLength)) 1
+    (cond (ltb largestExponent (fileExponent b)) 2 (entriesRefusal (fileOperator b)))

@@ -1,0 +1,38 @@
+-- The sign of what remains tells whether the operator is proper: "A cut keeps its sign, so the remaining Clifford shows it."
+use mathlib.Core.Path.{_≡_, refl, subst}
+use mathlib.Core.Bool.{Bool, true, false}
+use mathlib.Core.List.{List}
+use Prim.Native.Nat.{ℕ}
+use lib.Dec.{T}
+use lib.IntN.{ℤ}
+use Rattle.matrix.specs.Matrix.{entry}
+use Rattle.matrix.specs.Operator.{operator, SameOperator, Orthogonal}
+use Rattle.matrix.specs.Laws.Test.{T-true, true-T}
+use Rattle.matrix.specs.Laws.Operator.{same-operator-of, same-operator-sym, same-proper}
+use Rattle.clifford.specs.Columns.{columnsMatrix, columnBytes, isEven}
+use Rattle.clifford.specs.Laws.Columns.{Permutation, matrix-permutation, matrix-columns}
+use Rattle.clifford.specs.Laws.Sign.{even-proper, proper-even}
+use Rattle.reduction.specs.Reduction.{remaining}
+use Rattle.reduction.specs.Laws.NormalForm.{cutting}
+use Rattle.operator.specs.Acceptance.{isProper}
+
+module _ (k : ℕ) (m : List ℤ) (o : Orthogonal (operator k (entry m))) where
+  -- the columns that remain, and the matrix that remains
+  columns-same : SameOperator (operator 0 (columnsMatrix (columnBytes (entry (remaining k m))))) (operator 0 (entry (remaining k m)))
+  columns-same = same-operator-of _ _ refl (matrix-columns (entry (remaining k m)) (cutting k m o .orthogonal))
+
+  pub even-is-proper : isEven (columnBytes (entry (remaining k m))) ≡ isProper (entry m)
+  even-is-proper = go (isEven (columnBytes (entry (remaining k m)))) refl (isProper (entry m)) refl
+    where
+      perm : Permutation (columnBytes (entry (remaining k m)))
+      perm = matrix-permutation (entry (remaining k m)) (cutting k m o .orthogonal)
+
+      both : {x a b : Bool} → x ≡ true → x ≡ false → a ≡ b
+      both p q = absurd (subst T q (true-T p))
+
+      go : (a : Bool) → isEven (columnBytes (entry (remaining k m))) ≡ a → (b : Bool) → isProper (entry m) ≡ b → a ≡ b
+      go true e true f = refl
+      go false e false f = refl
+      go true e false f = both (T-true _ (cutting k m o .proper (same-proper columns-same (even-proper _ perm e)) .positive .lt)) f
+      go false e true f =
+          both (proper-even _ perm (same-proper (same-operator-sym columns-same) (cutting k m o .clifford (record { positive = record { lt = true-T f } }) .proper))) e

@@ -1,0 +1,160 @@
+-- An accepted file's normal form, as the code holds it, and what its sheet and its gate list are.
+use mathlib.Core.Path.{_≡_, refl, sym, ap, ap₂, subst, _∙_}
+use mathlib.Core.Bool.{true}
+use mathlib.Core.Logic.{_≢_}
+use mathlib.Core.List.{List, _++_, map}
+use Prim.Native.Nat.{ℕ, _+_, _*_, _-_, _<_, _≤_}
+use native.Mathlib.Nat.{zero-add}
+use native.Mathlib.Omega.{arith}
+use lib.ListN.{length, take, drop, replicate, length-map}
+use lib.Seq.{take-at, drop-at}
+use Rattle.matrix.specs.Matrix.{entry}
+use Rattle.matrix.specs.Operator.{SameOperator}
+use Rattle.matrix.specs.Laws.Operator.{same-operator-sym, same-operator-trans}
+use Rattle.matrix.specs.Laws.Array.{least-form}
+use borrow.Author.Tests.{eq-eqb, ne-eqb, lt-ltb, le-ltb}
+use Rattle.file.specs.declared.Answer.{Answer}
+use Rattle.file.specs.declared.Answer.the-variants.{Count, Refused}
+use Rattle.file.specs.File.{written, largestExponent, fileExponent, fileMatrix}
+use Rattle.clifford.specs.Columns.{columnsMatrix, columnBytes, areColumnBytes}
+use Rattle.clifford.specs.Laws.Columns.{matrix-permutation, matrix-columns, permutation-complete}
+use Rattle.reduction.specs.Reduction.{remaining, sheet, normalForm, sheetNumbers, sheetColumns, sheetOperator}
+use Rattle.reduction.specs.Laws.NormalForm.{Cutting, cutting, normal-form-same, length-sheet}
+use Rattle.word.specs.Gate.{letter}
+use Rattle.word.specs.Written.{Written}
+use Rattle.word.specs.Laws.Bytes.{columns-valid}
+use Rattle.gate.specs.List.{gateList}
+use Rattle.gate.specs.Laws.List.{listOf, list-of}
+use Rattle.operator.specs.declared.Listed as listed
+use Rattle.operator.specs.declared.Cut.{Cut}
+use Rattle.operator.specs.Acceptance.{fileOperator, fileRefusal}
+use Rattle.operator.specs.Cutting.{fileCount, fileNumbers, fileColumns, CutOf}
+use Rattle.operator.specs.Promise.{fileSheet, sheetAnswer, sheetBuffer, SheetPromise, GatesPromise}
+use Rattle.operator.specs.Laws.Acceptance.{accepted}
+
+module _ (b : List ℕ) (z : fileRefusal b ≡ 0) where
+  pub file-cutting : Cutting (fileExponent b) (fileMatrix b)
+  file-cutting = cutting (fileExponent b) (fileMatrix b) (accepted b z .entries .orthogonal)
+
+  pub count-small : fileCount b ≤ largestExponent
+  count-small = let h = least-form (fileExponent b) (fileMatrix b) .below in let r = accepted b z .range in omega arith
+
+  pub columns-bytes : areColumnBytes (fileColumns b) ≡ true
+  columns-bytes = columns-valid (fileColumns b) (permutation-complete (fileColumns b) (matrix-permutation (entry (remaining (fileExponent b) (fileMatrix b))) (file-cutting .orthogonal)))
+
+  sheet-length : length (fileSheet b) ≡ fileCount b + 6
+  sheet-length = length-sheet (fileExponent b) (fileMatrix b) (accepted b z .entries .orthogonal)
+
+  -- the sheet's generators in order times its Clifford are the operator
+  pub sheet-multiplies : SameOperator (sheetOperator (fileSheet b)) (fileOperator b)
+  unfolding sheet
+  sheet-multiplies =
+      let C = entry (remaining (fileExponent b) (fileMatrix b)) in
+      let n : length (fileSheet b) - 6 ≡ fileCount b = let l = sheet-length in omega arith in
+      let gs : sheetNumbers (fileSheet b) ≡ fileNumbers b = ap (λ x. take x (fileSheet b)) n ∙ take-at (fileNumbers b) (columnBytes C) (fileCount b) (file-cutting .exact) in
+      let cs : sheetColumns (fileSheet b) ≡ columnBytes C = ap (λ x. drop x (fileSheet b)) n ∙ drop-at (fileNumbers b) (columnBytes C) (fileCount b) (file-cutting .exact) in
+      subst (λ g. SameOperator (normalForm g (columnsMatrix (sheetColumns (fileSheet b)))) (fileOperator b)) (sym gs)
+      (subst (λ c. SameOperator (normalForm (fileNumbers b) (columnsMatrix c)) (fileOperator b)) (sym cs)
+      (same-operator-trans (normal-form-same (fileNumbers b) (columnsMatrix (columnBytes C)) C (matrix-columns C (file-cutting .orthogonal))) (same-operator-sym (file-cutting .same))))
+
+-- what the code holds
+pub record Ready (b : List ℕ) (r : Cut) : Type 0 where
+  pub accepted : fileRefusal b ≡ 0
+  pub count : r .count ≡ fileCount b
+  pub small : r .count ≤ largestExponent
+  pub numbers : take (r .count) (r .numbers) ≡ fileNumbers b
+  pub columns : r .columns ≡ fileColumns b
+  pub bytes : take (r .count) (r .numbers) ++ r .columns ≡ fileSheet b
+  pub long : length (fileSheet b) ≡ r .count + 6
+
+pub ready : (b : List ℕ) (r : Cut) → CutOf b r → r .refusal ≡ 0 → Ready b r
+unfolding sheet
+ready b r c e =
+    let z : fileRefusal b ≡ 0 = sym (c .refusal) ∙ e in
+    let t : r .count ≡ fileCount b = c .count z in
+    let n : take (r .count) (r .numbers) ≡ fileNumbers b =
+    ap₂ take t (c .numbers z) ∙ take-at (fileNumbers b) (replicate (60 - fileCount b) 0) (fileCount b) (file-cutting b z .exact) in
+    record {
+      accepted = z;
+      count = t;
+      small = rw t (count-small b z);
+      numbers = n;
+      columns = c .columns z;
+      bytes = ap₂ (λ x y. x ++ y) n (c .columns z);
+      long = sheet-length b z ∙ ap (λ x. x + 6) (sym t);
+    }
+
+-- ---- the ways out of the two calls, where the code holds r
+
+module _ (b old : List ℕ) (r : Cut) (c : CutOf b r) where
+  sheet-as : {new : List ℕ} {a : Answer} → a ≡ sheetAnswer b (length old) → new ≡ sheetBuffer b old → SheetPromise b old new a
+  sheet-as p q = record { answer = p; buffer = q; multiplies = λ z. sheet-multiplies b z; least = λ z. file-cutting b z .least }
+
+  still-refused : r .refusal ≢ 0 → fileRefusal b ≢ 0
+  still-refused h z = h (c .refusal ∙ z)
+
+  pub sheet-refused : r .refusal ≢ 0 → SheetPromise b old old (Refused (r .refusal))
+  unfolding sheetAnswer sheetBuffer
+  sheet-refused h =
+      let t = ne-eqb (fileRefusal b) 0 (still-refused h) in
+      sheet-as (rw t (ap Refused (c .refusal))) (rw t)
+
+  pub sheet-no-room : r .refusal ≡ 0 → length old < r .count + 6 → SheetPromise b old old (Refused 6)
+  unfolding sheetAnswer sheetBuffer
+  sheet-no-room e h =
+      let y = ready b r c e in
+      let t = eq-eqb (fileRefusal b) 0 (y .accepted) in
+      let l = lt-ltb (length old) (length (fileSheet b)) (rw (y .long) h) in
+      sheet-as (rw (t, l)) (rw (t, l))
+
+  pub sheet-done : (new : List ℕ) → r .refusal ≡ 0 → r .count + 6 ≤ length old → new ≡ written old (take (r .count) (r .numbers) ++ r .columns) → SheetPromise b old new (Count (r .count))
+  unfolding sheetAnswer sheetBuffer
+  sheet-done new e h n =
+      let y = ready b r c e in
+      let t = eq-eqb (fileRefusal b) 0 (y .accepted) in
+      let l = le-ltb (length old) (length (fileSheet b)) (rw (y .long) h) in
+      sheet-as (rw (t, l) (ap Count (y .count))) (rw (t, l) (n ∙ ap (written old) (y .bytes)))
+
+  pub gates-refused : r .refusal ≢ 0 → GatesPromise b old old (listed.the-variants.Refused (r .refusal))
+  gates-refused h = record {
+    refused = λ n. (ap listed.the-variants.Refused (c .refusal), refl);
+    no-room = λ z l. absurd (still-refused h z);
+    handed = λ z l. absurd (still-refused h z);
+  }
+
+  pub gates-no-room : r .refusal ≡ 0 → length old < 256 * (r .count + 1) → GatesPromise b old old (listed.the-variants.Refused 6)
+  gates-no-room e h =
+      let y = ready b r c e in
+      let t = y .count in
+      record {
+        refused = λ n. absurd (n (y .accepted));
+        no-room = λ z l. (refl, refl);
+        handed = λ z l. absurd (omega arith);
+      }
+
+  pub gates-done : (new : List ℕ) (n : ℕ) → r .refusal ≡ 0 → 256 * (r .count + 1) ≤ length old → Written (gateList (take (r .count) (r .numbers)) (r .columns)) 0 old new n
+      → GatesPromise b old new (listed.the-variants.Letters (r .count) n)
+  unfolding written
+  gates-done new n e h k =
+      let y = ready b r c e in
+      let t = y .count in
+      let a = accepted b (y .accepted) .entries in
+      let g = list-of (fileExponent b) (fileMatrix b) (a .orthogonal) (a .proper) in
+      let w = listOf (fileExponent b) (fileMatrix b) in
+      let v : Written w 0 old new n = subst (λ x. Written x 0 old new n) (ap₂ gateList (y .numbers) (y .columns)) k in
+      record {
+        refused = λ n. absurd (n (y .accepted));
+        no-room = λ z l. absurd (omega arith);
+        handed = λ z l. (
+          w,
+          record {
+            buffer = v .buffer ∙ ap (λ x. map letter w ++ drop x old) (zero-add (length w) ∙ sym (length-map w letter));
+            answer = ap₂ listed.the-variants.Letters t (v .next ∙ zero-add (length w));
+            multiplies = g .multiplies;
+            exact = g .exact;
+            least = file-cutting b (y .accepted) .least;
+            fewest = g .fewest;
+            short = g .short;
+          },
+        );
+      }

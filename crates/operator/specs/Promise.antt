@@ -1,0 +1,63 @@
+-- What the calls from an operator file to a sheet and to a gate list promise.
+use mathlib.Core.Bool.{cond}
+use mathlib.Core.List.{List, map}
+use mathlib.Core.Logic.{_≢_}
+use mathlib.Core.Path.{_≡_}
+use Prim.Native.Nat.{ℕ, _+_, _*_, _≤_, _<_}
+use lib.Dec.{eqb, ltb}
+use lib.ListN.{length}
+use Rattle.matrix.specs.Operator.{SameOperator, LeastExponent}
+use Rattle.file.specs.declared.Answer.{Answer}
+use Rattle.file.specs.declared.Answer.the-variants.{Count, Refused}
+use Rattle.file.specs.File.{fileExponent, fileMatrix, written}
+use Rattle.reduction.specs.Reduction.{sheet, sheetOperator}
+use Rattle.word.specs.declared.Gate.{Gate}
+use Rattle.word.specs.Gate.{letter}
+use Rattle.gate.specs.Product.{MultipliesTo, csGates}
+use Rattle.operator.specs.declared.Listed as listed
+use Rattle.operator.specs.Acceptance.{fileOperator, fileRefusal}
+use Rattle.operator.specs.Cutting.{fileCount}
+
+-- ---- sheets
+
+-- "A sheet is … its generators in order, times its Clifford"
+abbrev pub fileSheet : List ℕ → List ℕ
+fileSheet b = sheet (fileExponent b) (fileMatrix b)
+
+-- the answer, where the lent buffer has n bytes: "operators 1, 2, 3, 4, 5, 6", and 6 is "shorter than … the sheet"
+unfoldable pub sheetAnswer : List ℕ → ℕ → Answer
+sheetAnswer b n = cond (eqb (fileRefusal b) 0) (cond (ltb n (length (fileSheet b))) (Refused 6) (Count (fileCount b))) (Refused (fileRefusal b))
+
+-- the buffer afterwards
+unfoldable pub sheetBuffer : List ℕ → List ℕ → List ℕ
+sheetBuffer b old = cond (eqb (fileRefusal b) 0) (cond (ltb (length old) (length (fileSheet b))) old (written old (fileSheet b))) old
+
+pub record SheetPromise (b old new : List ℕ) (a : Answer) : Type 0 where
+  pub answer : a ≡ sheetAnswer b (length old)
+  pub buffer : new ≡ sheetBuffer b old
+  -- demand 2: the sheet multiplies to the operator handed in
+  pub multiplies : fileRefusal b ≡ 0 → SameOperator (sheetOperator (fileSheet b)) (fileOperator b)
+  -- demand 3: the count is the least exponent
+  pub least : fileRefusal b ≡ 0 → LeastExponent (fileOperator b) (fileCount b)
+
+-- ---- gate lists
+
+-- a list that was written; its Clifford letters are free
+pub record Handed (b old new : List ℕ) (a : listed.Listed) (w : List Gate) : Type 0 where
+  -- the letters at the front of the buffer, and the bytes past them as they were
+  pub buffer : new ≡ written old (map letter w)
+  -- "the count comes with the number of letters written"
+  pub answer : a ≡ listed.the-variants.Letters (fileCount b) (length w)
+  -- demand 2
+  pub multiplies : MultipliesTo w (fileOperator b)
+  -- demand 3: the letters C, the count and the least exponent are one number, and no list has fewer letters C
+  pub exact : csGates w ≡ fileCount b
+  pub least : LeastExponent (fileOperator b) (fileCount b)
+  pub fewest : (v : List Gate) → MultipliesTo v (fileOperator b) → csGates w ≤ csGates v
+  pub short : length w ≤ 256 * (fileCount b + 1)
+
+pub record GatesPromise (b old new : List ℕ) (a : listed.Listed) : Type 0 where
+  pub refused : fileRefusal b ≢ 0 → (a ≡ listed.the-variants.Refused (fileRefusal b)) × (new ≡ old)
+  -- 6: "shorter than 256 × (t + 1) for a gate list"
+  pub no-room : fileRefusal b ≡ 0 → length old < 256 * (fileCount b + 1) → (a ≡ listed.the-variants.Refused 6) × (new ≡ old)
+  pub handed : fileRefusal b ≡ 0 → 256 * (fileCount b + 1) ≤ length old → (w : List Gate) × Handed b old new a w

@@ -1,0 +1,133 @@
+// Operator files taken in: refusals 1 to 5, and the normal form of an accepted operator. The contracts cite specs/.
+
+use file::Answer;
+ghost use mathlib.Core.Path.{_≡_};
+ghost use mathlib.Core.List.{_++_};
+ghost use Prim.Native.Nat.{_+_, _≤_, _<_};
+ghost use lib.ListN.{length, getD, take};
+ghost use Rattle.file.specs.File.{written};
+ghost use Rattle.operator.specs.Cutting.{CutOf};
+ghost use Rattle.operator.specs.Promise.{SheetPromise, GatesPromise};
+
+// What an operator file gives: the number of a refusal, or 0 and the normal form.
+pub struct Cut {
+    pub refusal: u8,
+    pub count: u8,
+    pub numbers: [u8; 60],
+    pub columns: [u8; 6],
+}
+
+// A refusal, with nothing beside it.
+fn refused(refusal: u8) -> Cut
+    ensures { λ r. ⌜ r .refusal ≡ refusal ⌝ }
+{
+    Cut {
+        refusal,
+        count: 0,
+        numbers: [0; 60],
+        columns: [0; 6],
+    }
+}
+
+// The refusal of an operator file, or the normal form of its operator.
+pub fn cut_file(bytes: &[u8]) -> Cut
+    ensures { λ r. ⌜ CutOf (now (bytes .entry)) r ⌝ }
+{
+    if bytes.len() != file::FILE_LENGTH {
+        return refused(1);
+    }
+    let k = bytes[0];
+    if file::LARGEST_EXPONENT < k {
+        return refused(2);
+    }
+    let m = file::decode(bytes);
+    if !matrix::is_within(k, m) {
+        return refused(3);
+    }
+    if !matrix::is_orthogonal(k, m) {
+        return refused(4);
+    }
+    let normal = reduction::normal_form(k, m);
+    let count = normal.count;
+    let numbers = normal.numbers;
+    let remaining = normal.matrix;
+    let columns = clifford::columns_of(remaining);
+    if !clifford::is_even(columns) {
+        return refused(5);
+    }
+    Cut {
+        refusal: 0,
+        count,
+        numbers,
+        columns,
+    }
+}
+
+// Byte n of a sheet.
+fn sheet_byte(count: u8, numbers: [u8; 60], columns: [u8; 6], n: usize) -> u8
+    requires { ⌜ (count ≤ 60) × (n < count + 6) ⌝ }
+    ensures { λ r. ⌜ r ≡ getD (take count numbers ++ columns) n 0 ⌝ }
+{
+    let t = count as usize;
+    if n < t {
+        return numbers[n];
+    }
+    columns[n - t]
+}
+
+// The sheet at the front of `out`; the bytes past it stay.
+fn write_sheet(count: u8, numbers: [u8; 60], columns: [u8; 6], out: &mut [u8])
+    requires { ⌜ (count ≤ 60) × (count + 6 ≤ length (now out)) ⌝ }
+    ensures { λ r. ⌜ now (out .exit) ≡ written (now (out .entry)) (take count numbers ++ columns) ⌝ }
+{
+    let end = count as usize + 6;
+    let mut n = 0usize;
+    while n < end {
+        out[n] = sheet_byte(count, numbers, columns, n);
+        n += 1;
+    }
+}
+
+// An operator file into a sheet at the front of `out`.
+pub fn operator_to_sheet(bytes: &[u8], out: &mut [u8]) -> Answer
+    ensures { λ r. ⌜ SheetPromise (now (bytes .entry)) (now (out .entry)) (now (out .exit)) r ⌝ }
+{
+    let cut = cut_file(bytes);
+    let refusal = cut.refusal;
+    if refusal != 0 {
+        return Answer::Refused(refusal);
+    }
+    let count = cut.count;
+    let numbers = cut.numbers;
+    let columns = cut.columns;
+    if out.len() < count as usize + 6 {
+        return Answer::Refused(6);
+    }
+    write_sheet(count, numbers, columns, out);
+    Answer::Count(count)
+}
+
+// What the call for a gate list answers: the count with the number of letters written, or the refusal's number.
+pub enum Listed {
+    Letters { count: u8, letters: usize },
+    Refused(u8),
+}
+
+// An operator file into a gate list at the front of `out`.
+pub fn operator_to_gates(bytes: &[u8], out: &mut [u8]) -> Listed
+    ensures { λ r. ⌜ GatesPromise (now (bytes .entry)) (now (out .entry)) (now (out .exit)) r ⌝ }
+{
+    let cut = cut_file(bytes);
+    let refusal = cut.refusal;
+    if refusal != 0 {
+        return Listed::Refused(refusal);
+    }
+    let count = cut.count;
+    let numbers = cut.numbers;
+    let columns = cut.columns;
+    if out.len() < 256 * (count as usize + 1) {
+        return Listed::Refused(6);
+    }
+    let letters = gate::write_list(count, numbers, columns, out);
+    Listed::Letters { count, letters }
+}
