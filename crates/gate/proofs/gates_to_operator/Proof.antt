@@ -1,7 +1,7 @@
-use mathlib.Core.Path.{_≡_, refl, sym, ap, _∙_, subst}
+-- Each way out is a case of the definitions; the entries fit the file since the product is orthogonal with an exponent of at most 28.
+use mathlib.Core.Path.{_≡_, refl, sym, ap, _∙_, subst, ap₂}
 use Prim.Native.Nat.{ℕ, _≤_, _<_}
 use native.Mathlib.Omega.{arith}
-use mathlib.Core.Path.{ap₂}
 use mathlib.Core.Logic.{_≢_}
 use mathlib.Core.List.{List, []}
 use lib.ListN.{length}
@@ -17,10 +17,6 @@ use Rattle.gate.specs.Laws.Reading.{least-of-orthogonal}
 use borrow.Author.Needs.{needs}
 use Rattle.gate.proofs.gates_to_operator.Statement.{statement}
 use Rattle.gate.proofs.gates_to_operator.Tie as tie
-use Rattle.gate.proofs.gates_to_operator.Reads as reads
-use Rattle.gate.proofs.gates_to_operator.Lts as lts
-use Rattle.file.proofs.encode.Reads as encode-reads
-use Rattle.gate.proofs.read_letters.Reads as read-letters-reads
 
 -- the answer and the buffer of a reading
 abbrev Done : List ℕ → Reading → Answer → List ℕ → Type 0

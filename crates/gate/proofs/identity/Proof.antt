@@ -1,3 +1,4 @@
+-- The invariant: the elements of `out` before n are those of the identity.
 use mathlib.Core.Path.{_≡_, refl, _∙_}
 use Prim.Native.Nat.{_-_, _/_, _%_, _≤_}
 use native.Mathlib.Omega.{arith}
@@ -8,9 +9,6 @@ use Rattle.matrix.specs.Laws.Machine.{kept}
 use borrow.Author.Needs.{needs}
 use Rattle.gate.proofs.identity.Statement.{statement}
 use Rattle.gate.proofs.identity.Tie as tie
-use Rattle.gate.proofs.identity.Reads as reads
-use Rattle.gate.proofs.identity.Lts as lts
-use Rattle.gate.proofs.unit.Reads as unit-reads
 
 abbrev Inv-loop : tie.InvT-loop
 Inv-loop out₀ n₀ out n = (n ≤ 36) × Filled (pos 0) (λ n. δ (n / 6) (n % 6)) out₀ n out

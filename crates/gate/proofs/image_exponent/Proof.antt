@@ -1,9 +1,8 @@
+-- By the cases of the definition.
 use Rattle.gate.specs.Product.{image}
 use borrow.Author.Needs.{needs}
 use Rattle.gate.proofs.image_exponent.Statement.{statement}
 use Rattle.gate.proofs.image_exponent.Tie as tie
-use Rattle.gate.proofs.image_exponent.Reads as reads
-use Rattle.gate.proofs.image_exponent.Lts as lts
 
 enum-told : tie.Need-enum-told
 enum-told c = search needs

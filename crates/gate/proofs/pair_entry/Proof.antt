@@ -1,3 +1,4 @@
+-- A sum and a difference of two entries of 2^30 fit.
 use mathlib.Core.Path.{_∙_}
 use Prim.Native.Nat.{ℕ, _+_, _^_, _<_}
 use mathlib.Core.List.{List}
@@ -12,10 +13,7 @@ use Rattle.matrix.specs.Laws.Machine.{Sized, fits, again, stored, add, sub}
 use borrow.Author.Needs.{needs}
 use Rattle.gate.proofs.pair_entry.Statement.{statement}
 use Rattle.gate.proofs.pair_entry.Tie as tie
-use Rattle.gate.proofs.pair_entry.Reads as reads
-use Rattle.gate.proofs.pair_entry.Lts as lts
 
--- A sum and a difference of two entries of 2^30 fit.
 module _ (m : List ℤ) (r c p : ℕ) (hr : r < 6) (hc : c < 6) (hp : p < 6) (b : Bounded (2 ^ 30) (entry m)) where
   first : Sized (2 ^ 30) (toZ w64 (ofZ w64 (entry m r c))) (entry m r c)
   first = stored (entry m r c) (b .size r c hr hc) (lit< tt)

@@ -1,3 +1,4 @@
+-- By the three cases.
 use mathlib.Core.Path.{_≡_, sym, _∙_}
 use Prim.Native.Nat.{ℕ}
 use mathlib.Core.Logic.{_≢_}
@@ -7,10 +8,6 @@ use Rattle.gate.specs.Times.{partnerIn}
 use borrow.Author.Needs.{needs}
 use Rattle.gate.proofs.partner_in.Statement.{statement}
 use Rattle.gate.proofs.partner_in.Tie as tie
-use Rattle.gate.proofs.partner_in.Reads as reads
-use Rattle.gate.proofs.partner_in.Lts as lts
-use Rattle.residue.proofs.high_row.Reads as high-row-reads
-use Rattle.residue.proofs.low_row.Reads as low-row-reads
 
 module _ (g p c other x y : ℕ) (e : x ≡ low g p) (f : y ≡ high g p) where
   at-low : c ≡ x → y ≡ partnerIn g p c other

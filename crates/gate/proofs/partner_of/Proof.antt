@@ -1,11 +1,9 @@
+-- The three pairs, one after the other.
 use mathlib.Core.Path.{ap, _∙_}
 use Rattle.gate.specs.Times.{partnerIn, partner}
 use borrow.Author.Needs.{needs}
 use Rattle.gate.proofs.partner_of.Statement.{statement}
 use Rattle.gate.proofs.partner_of.Tie as tie
-use Rattle.gate.proofs.partner_of.Reads as reads
-use Rattle.gate.proofs.partner_of.Lts as lts
-use Rattle.gate.proofs.partner_in.Reads as partner-in-reads
 
 partner-in-requires : tie.Need-partner-in-requires
 partner-in-requires c κs = search needs

@@ -1,3 +1,4 @@
+-- The invariant: the elements before c are the partners.
 use mathlib.Core.Path.{_≡_, refl}
 use Prim.Native.Nat.{_-_, _≤_}
 use native.Mathlib.Omega.{arith}
@@ -6,9 +7,6 @@ use Rattle.gate.specs.Times.{partner}
 use borrow.Author.Needs.{needs}
 use Rattle.gate.proofs.partners_of.Statement.{statement}
 use Rattle.gate.proofs.partners_of.Tie as tie
-use Rattle.gate.proofs.partners_of.Reads as reads
-use Rattle.gate.proofs.partners_of.Lts as lts
-use Rattle.gate.proofs.partner_of.Reads as partner-of-reads
 
 abbrev Inv-loop : tie.InvT-loop
 Inv-loop g partners₀ c₀ partners c = (c ≤ 6) × Filled 0 (partner g) partners₀ c partners

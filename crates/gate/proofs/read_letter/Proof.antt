@@ -1,3 +1,4 @@
+-- The test on the exponent is the definition's.
 use mathlib.Core.Path.{_≡_, sym, ap, _∙_, subst}
 use Prim.Native.Nat.{ℕ, _≤_, _<_}
 use mathlib.Core.Bool.{Bool, true, false}
@@ -14,10 +15,6 @@ use Rattle.gate.specs.Reading.{multiplied, readByte}
 use borrow.Author.Needs.{needs}
 use Rattle.gate.proofs.read_letter.Statement.{statement}
 use Rattle.gate.proofs.read_letter.Tie as tie
-use Rattle.gate.proofs.read_letter.Reads as reads
-use Rattle.gate.proofs.read_letter.Lts as lts
-use Rattle.gate.proofs.times_gate.Reads as times-gate-reads
-use Rattle.word.proofs.gate_of.Reads as gate-of-reads
 
 module _ (k : ℕ) (m : List ℤ) (g : Gate) (l : Letter) (f : Least) (is : Is g ≡ l) (e : f ≡ multiplied k m g) where
   test : (t : Bool) → ltb largestExponent (f .exponent) ≡ t → ltb largestExponent (multiplied k m g .exponent) ≡ t

@@ -1,8 +1,8 @@
-use mathlib.Core.Path.{_≡_, refl, sym, ap, _∙_, subst}
+-- The invariant: the letters before n are read as w, and (k, m) is its product at the least exponent.
+use mathlib.Core.Path.{_≡_, refl, sym, ap, _∙_, subst, ap₂}
 use Prim.Native.Nat.{ℕ, _+_, _-_, _≤_, _<_}
 use native.Mathlib.Numerals.{add-one}
 use native.Mathlib.Omega.{arith}
-use mathlib.Core.Path.{ap₂}
 use mathlib.Core.Logic.{_≢_}
 use mathlib.Core.List.{List, [], _∷_, _++_}
 use lib.IntN.{ℤ}
@@ -23,10 +23,6 @@ use Rattle.gate.specs.Laws.Reading.{least-of-orthogonal, onward, stopped
 use borrow.Author.Needs.{needs}
 use Rattle.gate.proofs.read_letters.Statement.{statement}
 use Rattle.gate.proofs.read_letters.Tie as tie
-use Rattle.gate.proofs.read_letters.Reads as reads
-use Rattle.gate.proofs.read_letters.Lts as lts
-use Rattle.gate.proofs.identity.Reads as identity-reads
-use Rattle.gate.proofs.read_letter.Reads as read-letter-reads
 
 -- w is read, and (k, m) is its product
 record Going (bs : List ℕ) (k : ℕ) (m : List ℤ) (n : ℕ) : Type 0 where

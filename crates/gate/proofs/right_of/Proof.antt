@@ -1,9 +1,8 @@
+-- The table is the definition's.
 use Rattle.gate.specs.List.{rights, rightOf}
 use borrow.Author.Needs.{needs}
 use Rattle.gate.proofs.right_of.Statement.{statement}
 use Rattle.gate.proofs.right_of.Tie as tie
-use Rattle.gate.proofs.right_of.Reads as reads
-use Rattle.gate.proofs.right_of.Lts as lts
 
 sub-result : tie.Need-sub-result
 sub-result c = search needs

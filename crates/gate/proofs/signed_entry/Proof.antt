@@ -1,3 +1,4 @@
+-- The row is one of the six; the negative of an entry fits.
 use mathlib.Core.Path.{_≡_, refl, _∙_}
 use Prim.Native.Nat.{ℕ, _+_, _*_, _^_, _<_}
 use native.Mathlib.Omega.{arith}
@@ -17,9 +18,6 @@ use Rattle.clifford.specs.Laws.Columns.{row-lt}
 use borrow.Author.Needs.{needs}
 use Rattle.gate.proofs.signed_entry.Statement.{statement}
 use Rattle.gate.proofs.signed_entry.Tie as tie
-use Rattle.gate.proofs.signed_entry.Reads as reads
-use Rattle.gate.proofs.signed_entry.Lts as lts
-use Rattle.clifford.proofs.row_of.Reads as row-of-reads
 
 module _ (m : List ℤ) (r b x : ℕ) (hr : r < 6) (v : isColumnByte b ≡ true) (bd : Bounded (2 ^ 30) (entry m)) (e : x ≡ rowOf b) where
   inside : r * 6 + x < 36

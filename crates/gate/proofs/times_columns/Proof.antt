@@ -1,3 +1,4 @@
+-- The invariant: the elements of `out` before n are those of the product.
 use mathlib.Core.Path.{_≡_, refl, sym, _∙_}
 use Prim.Native.Nat.{ℕ, _-_, _/_, _%_, _≤_}
 use native.Mathlib.Omega.{arith}
@@ -14,9 +15,6 @@ use Rattle.gate.specs.Laws.Times.{times-columns}
 use borrow.Author.Needs.{needs}
 use Rattle.gate.proofs.times_columns.Statement.{statement}
 use Rattle.gate.proofs.times_columns.Tie as tie
-use Rattle.gate.proofs.times_columns.Reads as reads
-use Rattle.gate.proofs.times_columns.Lts as lts
-use Rattle.gate.proofs.signed_entry.Reads as signed-entry-reads
 
 -- element n of the product
 abbrev signed-at : List ℤ → List ℕ → ℕ → ℤ

@@ -1,7 +1,7 @@
-use mathlib.Core.Path.{ap, _∙_}
+-- An orthogonal operator with an exponent of at most 28 has entries within the bound.
+use mathlib.Core.Path.{ap, _∙_, ap₂}
 use Prim.Native.Nat.{_+_}
 use native.Mathlib.Omega.{arith}
-use mathlib.Core.Path.{ap₂}
 use Rattle.matrix.specs.Matrix.{entry}
 use Rattle.matrix.specs.Array.{leastForm}
 use Rattle.matrix.specs.Laws.Array.{orthogonal-bounded}
@@ -9,11 +9,6 @@ use Rattle.gate.specs.Reading.{multiplied}
 use borrow.Author.Needs.{needs}
 use Rattle.gate.proofs.times_gate.Statement.{statement}
 use Rattle.gate.proofs.times_gate.Tie as tie
-use Rattle.gate.proofs.times_gate.Reads as reads
-use Rattle.gate.proofs.times_gate.Lts as lts
-use Rattle.gate.proofs.image_exponent.Reads as image-exponent-reads
-use Rattle.gate.proofs.times_image.Reads as times-image-reads
-use Rattle.matrix.proofs.least_form.Reads as least-form-reads
 
 image-exponent-requires : tie.Need-image-exponent-requires
 image-exponent-requires c κs = search needs

@@ -1,3 +1,4 @@
+-- The invariant: the elements of `out` before n are those of the product.
 use mathlib.Core.Path.{_≡_, refl, sym, ap, _∙_}
 use Prim.Native.Nat.{ℕ, _-_, _/_, _%_, _≤_}
 use native.Mathlib.Nat.{zero-add}
@@ -15,10 +16,6 @@ use Rattle.gate.specs.Laws.Times.{partner-lt, times-generator}
 use borrow.Author.Needs.{needs}
 use Rattle.gate.proofs.times_generator.Statement.{statement}
 use Rattle.gate.proofs.times_generator.Tie as tie
-use Rattle.gate.proofs.times_generator.Reads as reads
-use Rattle.gate.proofs.times_generator.Lts as lts
-use Rattle.gate.proofs.pair_entry.Reads as pair-entry-reads
-use Rattle.gate.proofs.partners_of.Reads as partners-of-reads
 
 -- element n of the product
 abbrev pair-at : List ℤ → ℕ → ℕ → ℤ

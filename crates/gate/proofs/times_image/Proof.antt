@@ -1,3 +1,4 @@
+-- The columns in the code are those of the images.
 use mathlib.Core.Path.{refl, sym, ap, _∙_}
 use Rattle.matrix.specs.Matrix.{entry, listed, product}
 use Rattle.clifford.specs.Columns.{arePermutation}
@@ -5,10 +6,6 @@ use Rattle.gate.specs.Product.{image}
 use borrow.Author.Needs.{needs}
 use Rattle.gate.proofs.times_image.Statement.{statement}
 use Rattle.gate.proofs.times_image.Tie as tie
-use Rattle.gate.proofs.times_image.Reads as reads
-use Rattle.gate.proofs.times_image.Lts as lts
-use Rattle.gate.proofs.times_columns.Reads as times-columns-reads
-use Rattle.gate.proofs.times_generator.Reads as times-generator-reads
 
 enum-told : tie.Need-enum-told
 enum-told c = search needs

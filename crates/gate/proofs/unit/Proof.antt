@@ -1,10 +1,9 @@
+-- By the two cases.
 use mathlib.Core.Path.{sym, ap, _∙_}
 use Rattle.matrix.specs.Matrix.{δ}
 use Rattle.matrix.specs.Laws.Sum.{δ-same, δ-other}
 use Rattle.gate.proofs.unit.Statement.{statement}
 use Rattle.gate.proofs.unit.Tie as tie
-use Rattle.gate.proofs.unit.Reads as reads
-use Rattle.gate.proofs.unit.Lts as lts
 
 returns : tie.Need-returns
 returns c = sym (ap (δ (c .before .args .r)) (sym (c .if1 .taken)) ∙ δ-same (c .before .args .r))

@@ -1,7 +1,7 @@
-use mathlib.Core.Path.{_≡_, refl, sym, ap, _∙_, subst}
+-- The invariant: the letters w are written, and the list is w and what `between` and the numbers from n on give.
+use mathlib.Core.Path.{_≡_, refl, sym, ap, _∙_, subst, ap₂}
 use Prim.Native.Nat.{ℕ, _+_, _*_, _-_, _≤_, _<_}
 use native.Mathlib.Omega.{arith}
-use mathlib.Core.Path.{ap₂}
 use mathlib.Core.List.{List, [], _∷_, _++_, append-assoc}
 use native.Mathlib.Numerals.{add-one}
 use lib.ListN.{length, getD, take, drop, length-append}
@@ -18,12 +18,6 @@ use Rattle.gate.specs.List.{leftOf, rightOf, stretch, stretches, identit
 use borrow.Author.Needs.{needs}
 use Rattle.gate.proofs.write_list.Statement.{statement}
 use Rattle.gate.proofs.write_list.Tie as tie
-use Rattle.gate.proofs.write_list.Reads as reads
-use Rattle.gate.proofs.write_list.Lts as lts
-use Rattle.gate.proofs.right_of.Reads as right-of-reads
-use Rattle.gate.proofs.write_stretch.Reads as write-stretch-reads
-use Rattle.word.proofs.compose.Reads as compose-reads
-use Rattle.word.proofs.write_clifford.Reads as write-clifford-reads
 
 -- the letters w are written; what is left of the list begins with the Clifford `between`
 record Going (gs columns out₀ out between : List ℕ) (at n : ℕ) : Type 0 where

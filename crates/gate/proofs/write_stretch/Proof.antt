@@ -1,3 +1,4 @@
+-- The letter C goes right behind the word.
 use mathlib.Core.Path.{ap, _∙_}
 use native.Mathlib.Omega.{arith}
 use mathlib.Core.List.{[], _∷_, _++_}
@@ -11,11 +12,6 @@ use Rattle.gate.specs.Laws.List.{both-cliffords}
 use borrow.Author.Needs.{needs}
 use Rattle.gate.proofs.write_stretch.Statement.{statement}
 use Rattle.gate.proofs.write_stretch.Tie as tie
-use Rattle.gate.proofs.write_stretch.Reads as reads
-use Rattle.gate.proofs.write_stretch.Lts as lts
-use Rattle.gate.proofs.left_of.Reads as left-of-reads
-use Rattle.word.proofs.compose.Reads as compose-reads
-use Rattle.word.proofs.write_clifford.Reads as write-clifford-reads
 
 left-of-requires : tie.Need-left-of-requires
 left-of-requires c κs = search needs

@@ -108,7 +108,7 @@ module _ (g : ℕ) (l : 1 ≤ g) (u : g ≤ 15) where
         record { permutation = T-true _ (left (arePermutation (rightOf g)) _ b); even = T-true _ (right (arePermutation (rightOf g)) _ b) },
       )
 
-  -- a word and C and a list
+  -- the word of a Clifford, C, and a list
   then-cs : (bs : List ℕ) → IsClifford bs → (v : List Gate) (B : Operator) → MultipliesTo v B
       → SameOperator (productOf (cliffordWord bs ++ Cs ∷ v)) (timesOperator (clifford bs) (timesOperator (operator 1 (generator 3)) B))
   unfolding productOf image
@@ -126,7 +126,7 @@ module _ (g : ℕ) (l : 1 ≤ g) (u : g ≤ 15) where
 
 -- ---- the list
 
--- L G B is the generator times N, where R N is B
+-- (K L) (G (R N)) is K ((L (G R)) N)
 regrouped : (K L R N G : Operator) → SameOperator (timesOperator (timesOperator K L) (timesOperator G (timesOperator R N))) (timesOperator K (timesOperator (timesOperator L (timesOperator G R)) N))
 regrouped K L R N G =
     same-operator-trans (times-assoc K L (timesOperator G (timesOperator R N)))

@@ -1,3 +1,4 @@
+-- Each test is the definition's; the sign of the columns is that of the operator.
 use mathlib.Core.Path.{_≡_, refl, sym, ap, _∙_, subst}
 use Prim.Native.Nat.{ℕ, _≤_, _<_}
 use native.Mathlib.Omega.{arith}
@@ -25,15 +26,6 @@ use Rattle.operator.specs.Laws.Cutting.{even-is-proper}
 use borrow.Author.Needs.{needs}
 use Rattle.operator.proofs.cut_file.Statement.{statement}
 use Rattle.operator.proofs.cut_file.Tie as tie
-use Rattle.operator.proofs.cut_file.Reads as reads
-use Rattle.operator.proofs.cut_file.Lts as lts
-use Rattle.clifford.proofs.columns_of.Reads as columns-of-reads
-use Rattle.clifford.proofs.is_even.Reads as is-even-reads
-use Rattle.file.proofs.decode.Reads as decode-reads
-use Rattle.matrix.proofs.is_orthogonal.Reads as is-orthogonal-reads
-use Rattle.matrix.proofs.is_within.Reads as is-within-reads
-use Rattle.operator.proofs.refused.Reads as refused-reads
-use Rattle.reduction.proofs.normal_form.Reads as normal-form-reads
 
 -- a test that the code negates
 off : (t : Bool) → not t ≡ true → t ≡ false

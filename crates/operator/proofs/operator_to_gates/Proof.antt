@@ -1,3 +1,4 @@
+-- Each way out is a case of the promise.
 use mathlib.Core.Path.{sym, subst}
 use native.Mathlib.Omega.{arith}
 use denote.Ref.{now}
@@ -6,10 +7,6 @@ use Rattle.operator.specs.Laws.Promise.{file-cutting, columns-bytes, rea
 use borrow.Author.Needs.{needs}
 use Rattle.operator.proofs.operator_to_gates.Statement.{statement}
 use Rattle.operator.proofs.operator_to_gates.Tie as tie
-use Rattle.operator.proofs.operator_to_gates.Reads as reads
-use Rattle.operator.proofs.operator_to_gates.Lts as lts
-use Rattle.gate.proofs.write_list.Reads as write-list-reads
-use Rattle.operator.proofs.cut_file.Reads as cut-file-reads
 
 cut-file-requires : tie.Need-cut-file-requires
 cut-file-requires c κs = search needs

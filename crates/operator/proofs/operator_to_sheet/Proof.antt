@@ -1,13 +1,10 @@
+-- Each way out is a case of the promise.
 use native.Mathlib.Omega.{arith}
 use denote.Ref.{now}
 use Rattle.operator.specs.Laws.Promise.{ready, sheet-refused, sheet-no-room, sheet-done}
 use borrow.Author.Needs.{needs}
 use Rattle.operator.proofs.operator_to_sheet.Statement.{statement}
 use Rattle.operator.proofs.operator_to_sheet.Tie as tie
-use Rattle.operator.proofs.operator_to_sheet.Reads as reads
-use Rattle.operator.proofs.operator_to_sheet.Lts as lts
-use Rattle.operator.proofs.cut_file.Reads as cut-file-reads
-use Rattle.operator.proofs.write_sheet.Reads as write-sheet-reads
 
 cut-file-requires : tie.Need-cut-file-requires
 cut-file-requires c κs = search needs

@@ -1,3 +1,4 @@
+-- The first bytes are the numbers, the others the columns.
 use mathlib.Core.Path.{_≡_, sym, ap, _∙_}
 use Prim.Native.Nat.{ℕ, _+_, _-_, _≤_, _<_}
 use native.Mathlib.Omega.{arith}
@@ -7,8 +8,6 @@ use lib.Seq.{length-take-le, getD-take, getD-append-add}
 use borrow.Author.Needs.{needs}
 use Rattle.operator.proofs.sheet_byte.Statement.{statement}
 use Rattle.operator.proofs.sheet_byte.Tie as tie
-use Rattle.operator.proofs.sheet_byte.Reads as reads
-use Rattle.operator.proofs.sheet_byte.Lts as lts
 
 module _ (count n : ℕ) (numbers columns : List ℕ) (h : count ≤ 60) (l : length numbers ≡ 60) where
   taken : length (take count numbers) ≡ count

@@ -1,3 +1,4 @@
+-- The invariant: the bytes before n are those of the sheet.
 use mathlib.Core.Path.{_≡_, refl, sym, ap, _∙_}
 use Prim.Native.Nat.{ℕ, _+_, _-_, _≤_}
 use native.Mathlib.Omega.{arith}
@@ -11,9 +12,6 @@ use Rattle.file.specs.Laws.Written.{filled-written}
 use borrow.Author.Needs.{needs}
 use Rattle.operator.proofs.write_sheet.Statement.{statement}
 use Rattle.operator.proofs.write_sheet.Tie as tie
-use Rattle.operator.proofs.write_sheet.Reads as reads
-use Rattle.operator.proofs.write_sheet.Lts as lts
-use Rattle.operator.proofs.sheet_byte.Reads as sheet-byte-reads
 
 abbrev byte : ℕ → List ℕ → List ℕ → ℕ → ℕ
 byte count numbers columns i = getD (take count numbers ++ columns) i 0
