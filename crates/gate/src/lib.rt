@@ -243,6 +243,7 @@ fn read_letters(letters: &[u8]) -> Read
 pub const LARGEST_LIST: usize = 8192;
 
 // A gate list into an operator file at the front of `out`.
+// Wrong, and refused: 9 at a beginning whose least exponent is 28; the product at another exponent than its least one.
 pub fn gates_to_operator(letters: &[u8], out: &mut [u8]) -> Answer
     ensures { λ r. ⌜ r ≡ operatorAnswer (length (now (out .entry))) (reading (now (letters .entry))) ⌝ }
     ensures { λ r. ⌜ now (out .exit) ≡ operatorBuffer (now (out .entry)) (reading (now (letters .entry))) ⌝ }

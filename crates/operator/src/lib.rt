@@ -89,6 +89,7 @@ fn write_sheet(count: u8, numbers: [u8; 60], columns: [u8; 6], out: &mut [u8])
 }
 
 // An operator file into a sheet at the front of `out`.
+// Wrong, and refused: the first generator's number in every place; the exponent that the file carries as the count.
 pub fn operator_to_sheet(bytes: &[u8], out: &mut [u8]) -> Answer
     ensures { λ r. ⌜ SheetPromise (now (bytes .entry)) (now (out .entry)) (now (out .exit)) r ⌝ }
 {
@@ -114,6 +115,7 @@ pub enum Listed {
 }
 
 // An operator file into a gate list at the front of `out`.
+// Wrong, and refused: a count that is not the number of letters C; 4 for a file that earns 3 first.
 pub fn operator_to_gates(bytes: &[u8], out: &mut [u8]) -> Listed
     ensures { λ r. ⌜ GatesPromise (now (bytes .entry)) (now (out .entry)) (now (out .exit)) r ⌝ }
 {
