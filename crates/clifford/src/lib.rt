@@ -5,7 +5,7 @@ ghost use mathlib.Core.Path.{_≡_};
 ghost use Prim.Native.Nat.{_+_, _<_};
 ghost use lib.ListN.{drop, getD};
 ghost use Rattle.matrix.specs.Matrix.{entry};
-ghost use Rattle.clifford.specs.Columns.{below, columnByte, columnBytes, inversions, isEven, minuses, rowOf};
+ghost use Rattle.clifford.specs.Columns.{areColumnBytes, below, columnByte, columnBytes, differs, different, inversions, isColumnByte, isEven, minuses, rowOf};
 
 // The byte of column c: of its first entry that is not 0.
 fn column_byte(m: [i64; 36], c: usize) -> u8
@@ -39,6 +39,31 @@ pub fn columns_of(m: [i64; 36]) -> [u8; 6]
     columns
 }
 
+// Whether a byte is a column's.
+fn is_column_byte(b: u8) -> bool
+    ensures { λ r. ⌜ r ≡ isColumnByte b ⌝ }
+{
+    if b < 129 {
+        return 1 <= b && b <= 6;
+    }
+    b <= 134
+}
+
+// Whether all six bytes are columns'.
+pub fn are_column_bytes(columns: [u8; 6]) -> bool
+    ensures { λ r. ⌜ r ≡ areColumnBytes columns ⌝ }
+{
+    let mut good = true;
+    let mut c = 6usize;
+    while 0 < c {
+        c -= 1;
+        if !is_column_byte(columns[c]) {
+            good = false;
+        }
+    }
+    good
+}
+
 // The row of a column byte's entry, counted from 0.
 pub fn row_of(b: u8) -> u8
     ensures { λ r. ⌜ r ≡ rowOf b ⌝ }
@@ -50,6 +75,38 @@ pub fn row_of(b: u8) -> u8
         return b - 1;
     }
     b - 129
+}
+
+// Whether no column after c has the row of column c.
+fn row_differs(columns: [u8; 6], c: usize) -> bool
+    requires { ⌜ c < 6 ⌝ }
+    ensures { λ r. ⌜ r ≡ differs (rowOf (getD columns c 0)) (map rowOf (drop (c + 1) columns)) ⌝ }
+{
+    let row = row_of(columns[c]);
+    let mut good = true;
+    let mut d = 6usize;
+    while c + 1 < d {
+        d -= 1;
+        if row == row_of(columns[d]) {
+            good = false;
+        }
+    }
+    good
+}
+
+// Whether no two columns have one row.
+pub fn rows_differ(columns: [u8; 6]) -> bool
+    ensures { λ r. ⌜ r ≡ different (map rowOf columns) ⌝ }
+{
+    let mut good = true;
+    let mut c = 6usize;
+    while 0 < c {
+        c -= 1;
+        if !row_differs(columns, c) {
+            good = false;
+        }
+    }
+    good
 }
 
 // How many columns after c have their row below that of column c.

@@ -1,15 +1,15 @@
 -- Document 01's trial cuts that are marked to be proved of the definitions: a table of cases, and the test that each passes.
-use mathlib.Core.Bool.{Bool, true, false, not, _&&_}
+use mathlib.Core.Bool.{Bool, true, not, _&&_}
 use mathlib.Core.List.{List, [], _∷_}
 use Prim.Native.Nat.{ℕ}
-use lib.Dec.{eqb}
 use lib.IntN.{pos, negsuc, _*ℤ_}
 use lib.Signed.{ltZ}
-use Rattle.matrix.specs.Matrix.{δ, replaced, listed}
+use Rattle.matrix.specs.List.{sameList}
+use Rattle.matrix.specs.Matrix.{δ, replaced}
 use Rattle.matrix.specs.Determinant.{det}
 use Rattle.matrix.specs.Operator.{Operator, operator}
 use Rattle.matrix.specs.Array.{isOrthogonal}
-use Rattle.reduction.specs.Reduction.{sheet, sheetOperator}
+use Rattle.reduction.specs.Reduction.{sheetOf, sheetOperator}
 use Rattle.word.specs.declared.Gate.{Gate}
 use Rattle.word.specs.declared.Gate.the-variants.{H1, Cz, Cs}
 use Rattle.gate.specs.Product.{productOf}
@@ -23,15 +23,6 @@ pub data Trial : Type 0 where
   improper : Operator → Trial
   -- this list multiplies to an operator with this sheet
   multiplies : List Gate → List ℕ → Trial
-
-abbrev pub sameList : List ℕ → List ℕ → Bool
-sameList [] [] = true
-sameList [] (y ∷ ys) = false
-sameList (x ∷ xs) [] = false
-sameList (x ∷ xs) (y ∷ ys) = eqb x y && sameList xs ys
-
-abbrev pub sheetOf : Operator → List ℕ
-sheetOf A = sheet (A .exponent) (listed (A .matrix))
 
 abbrev pub passes : Trial → Bool
 passes (cuts A s) = isOrthogonal (A .exponent) (A .matrix) && sameList (sheetOf A) s

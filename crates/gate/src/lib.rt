@@ -126,7 +126,7 @@ fn unit(r: usize, c: usize) -> i64
 }
 
 // The identity.
-fn identity() -> [i64; 36]
+pub fn identity() -> [i64; 36]
     ensures { λ r. ⌜ r ≡ listed δ ⌝ }
 {
     let mut out = [0i64; 36];

@@ -3,8 +3,8 @@
 use file::Answer;
 ghost use mathlib.Core.Path.{_≡_};
 ghost use mathlib.Core.List.{_++_};
-ghost use Prim.Native.Nat.{_+_, _≤_, _<_};
-ghost use lib.ListN.{length, getD, take};
+ghost use Prim.Native.Nat.{_+_, _≤_};
+ghost use lib.ListN.{length, take};
 ghost use Rattle.file.specs.File.{written};
 ghost use Rattle.operator.specs.Cutting.{CutOf};
 ghost use Rattle.operator.specs.Promise.{SheetPromise, GatesPromise};
@@ -63,18 +63,6 @@ pub fn cut_file(bytes: &[u8]) -> Cut
     }
 }
 
-// Byte n of a sheet.
-fn sheet_byte(count: u8, numbers: [u8; 60], columns: [u8; 6], n: usize) -> u8
-    requires { ⌜ (count ≤ 60) × (n < count + 6) ⌝ }
-    ensures { λ r. ⌜ r ≡ getD (take count numbers ++ columns) n 0 ⌝ }
-{
-    let t = count as usize;
-    if n < t {
-        return numbers[n];
-    }
-    columns[n - t]
-}
-
 // The sheet at the front of `out`; the bytes past it stay.
 fn write_sheet(count: u8, numbers: [u8; 60], columns: [u8; 6], out: &mut [u8])
     requires { ⌜ (count ≤ 60) × (count + 6 ≤ length (now out)) ⌝ }
@@ -83,7 +71,7 @@ fn write_sheet(count: u8, numbers: [u8; 60], columns: [u8; 6], out: &mut [u8])
     let end = count as usize + 6;
     let mut n = 0usize;
     while n < end {
-        out[n] = sheet_byte(count, numbers, columns, n);
+        out[n] = reduction::sheet_byte(count, numbers, columns, n);
         n += 1;
     }
 }

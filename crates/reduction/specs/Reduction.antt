@@ -43,6 +43,9 @@ remaining k m = remainder (leastForm k m .exponent) (leastForm k m .matrix)
 unfoldable pub sheet : ℕ → List ℤ → List ℕ
 sheet k m = taken k m ++ columnBytes (entry (remaining k m))
 
+abbrev pub sheetOf : Operator → List ℕ
+sheetOf A = sheet (A .exponent) (listed (A .matrix))
+
 -- "its generators in order, times its Clifford": the operator of generator numbers and a matrix of exponent 0
 unfoldable pub normalForm : List ℕ → Matrix → Operator
 normalForm [] C = operator 0 C

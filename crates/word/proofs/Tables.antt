@@ -13,7 +13,8 @@ use Rattle.word.specs.declared.Gate.{Gate}
 use Rattle.word.specs.Gate.{letter}
 use Rattle.word.specs.Word.{partWords, rotationWords, onQubit}
 use Rattle.word.specs.Written.{raised, rowWord, IsRow, Appended, Written}
-use Rattle.word.specs.Laws.Every.{and-left, and-right, sameList, same-list}
+use Rattle.matrix.specs.List.{sameList}
+use Rattle.matrix.specs.Laws.Test.{and-left, and-right, same-list}
 use Rattle.word.specs.Laws.Written.{appended-written}
 
 -- rows of n letters

@@ -1,7 +1,11 @@
 -- Tests that compute, and what they say.
-use mathlib.Core.Path.{_≡_, refl, subst}
-use mathlib.Core.Bool.{Bool, true, false, _&&_, _||_}
-use lib.Dec.{T}
+use mathlib.Core.Path.{_≡_, refl, sym, ap₂, subst}
+use mathlib.Core.Bool.{Bool, true, false, not, _&&_, _||_}
+use mathlib.Core.List.{List, [], _∷_}
+use Prim.Native.Nat.{ℕ}
+use lib.Dec.{T, eqb}
+use borrow.Author.Tests.{eqb-true, eq-eqb}
+use Rattle.matrix.specs.List.{sameList}
 
 pub both : (a b : Bool) → T a → T b → T (a && b)
 both true b s t = t
@@ -24,7 +28,35 @@ T-true true t = refl
 T-true false t = absurd t
 
 pub true-T : {b : Bool} → b ≡ true → T b
-true-T e = subst T (mathlib.Core.Path.sym e) tt
+true-T e = subst T (sym e) tt
+
+-- a test that the code negates
+pub off : (t : Bool) → not t ≡ true → t ≡ false
+off true e = sym e
+off false e = refl
+
+pub on : (t : Bool) → not t ≡ false → t ≡ true
+on true e = refl
+on false e = sym e
+
+pub and-left : (a b : Bool) → (a && b) ≡ true → a ≡ true
+and-left true b e = refl
+and-left false b e = e
+
+pub and-right : (a b : Bool) → (a && b) ≡ true → b ≡ true
+and-right true b e = e
+and-right false b e = cc
+
+pub same-list : (xs ys : List ℕ) → sameList xs ys ≡ true → xs ≡ ys
+same-list [] [] t = refl
+same-list [] (y ∷ ys) t = cc
+same-list (x ∷ xs) [] t = cc
+same-list (x ∷ xs) (y ∷ ys) t =
+    ap₂ _∷_ (eqb-true x y (and-left (eqb x y) (sameList xs ys) t)) (same-list xs ys (and-right (eqb x y) (sameList xs ys) t))
+
+pub same-list-refl : (xs : List ℕ) → sameList xs xs ≡ true
+same-list-refl [] = refl
+same-list-refl (x ∷ xs) = rw (eq-eqb x x refl) (same-list-refl xs)
 
 -- a implies b
 abbrev pub imp : Bool → Bool → Bool

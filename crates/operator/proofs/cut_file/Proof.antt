@@ -1,5 +1,5 @@
 -- Each test is the definition's; the sign of the columns is that of the operator.
-use mathlib.Core.Path.{_≡_, refl, sym, ap, _∙_, subst}
+use mathlib.Core.Path.{_≡_, sym, ap, _∙_, subst}
 use Prim.Native.Nat.{ℕ, _≤_, _<_}
 use native.Mathlib.Omega.{arith}
 use mathlib.Core.Logic.{_≢_}
@@ -11,6 +11,7 @@ use borrow.Author.Tests.{eq-eqb, ne-eqb, lt-ltb}
 use Rattle.matrix.specs.Matrix.{entry}
 use Rattle.matrix.specs.Operator.{operator, Orthogonal}
 use Rattle.matrix.specs.Array.{isWithin, isOrthogonal}
+use Rattle.matrix.specs.Laws.Test.{off, on}
 use Rattle.matrix.specs.Laws.Array.{orthogonal-sound}
 use Rattle.file.specs.File.{largestExponent, fileLength, fileExponent, fileMatrix}
 use Rattle.file.specs.Laws.File.{file-bounded}
@@ -26,15 +27,6 @@ use Rattle.operator.specs.Laws.Cutting.{even-is-proper}
 use borrow.Author.Needs.{needs}
 use Rattle.operator.proofs.cut_file.Statement.{statement}
 use Rattle.operator.proofs.cut_file.Tie as tie
-
--- a test that the code negates
-off : (t : Bool) → not t ≡ true → t ≡ false
-off true e = sym e
-off false e = refl
-
-on : (t : Bool) → not t ≡ false → t ≡ true
-on true e = refl
-on false e = sym e
 
 -- a refusal
 refused-as : (b : List ℕ) (r : Cut) (n : ℕ) → 1 ≤ n → fileRefusal b ≡ n → r .refusal ≡ n → CutOf b r

@@ -42,19 +42,27 @@ module _ (b : List ℕ) (z : fileRefusal b ≡ 0) where
   pub columns-bytes : areColumnBytes (fileColumns b) ≡ true
   columns-bytes = columns-valid (fileColumns b) (permutation-complete (fileColumns b) (matrix-permutation (entry (remaining (fileExponent b) (fileMatrix b))) (file-cutting .orthogonal)))
 
-  sheet-length : length (fileSheet b) ≡ fileCount b + 6
+  pub sheet-length : length (fileSheet b) ≡ fileCount b + 6
   sheet-length = length-sheet (fileExponent b) (fileMatrix b) (accepted b z .entries .orthogonal)
+
+  -- a sheet's parts
+  before-columns : length (fileSheet b) - 6 ≡ fileCount b
+  before-columns = let l = sheet-length in omega arith
+
+  pub sheet-numbers : sheetNumbers (fileSheet b) ≡ fileNumbers b
+  unfolding sheet
+  sheet-numbers = ap (λ x. take x (fileSheet b)) before-columns ∙ take-at (fileNumbers b) (fileColumns b) (fileCount b) (file-cutting .exact)
+
+  pub sheet-columns : sheetColumns (fileSheet b) ≡ fileColumns b
+  unfolding sheet
+  sheet-columns = ap (λ x. drop x (fileSheet b)) before-columns ∙ drop-at (fileNumbers b) (fileColumns b) (fileCount b) (file-cutting .exact)
 
   -- the sheet's generators in order times its Clifford are the operator
   pub sheet-multiplies : SameOperator (sheetOperator (fileSheet b)) (fileOperator b)
-  unfolding sheet
   sheet-multiplies =
       let C = entry (remaining (fileExponent b) (fileMatrix b)) in
-      let n : length (fileSheet b) - 6 ≡ fileCount b = let l = sheet-length in omega arith in
-      let gs : sheetNumbers (fileSheet b) ≡ fileNumbers b = ap (λ x. take x (fileSheet b)) n ∙ take-at (fileNumbers b) (columnBytes C) (fileCount b) (file-cutting .exact) in
-      let cs : sheetColumns (fileSheet b) ≡ columnBytes C = ap (λ x. drop x (fileSheet b)) n ∙ drop-at (fileNumbers b) (columnBytes C) (fileCount b) (file-cutting .exact) in
-      subst (λ g. SameOperator (normalForm g (columnsMatrix (sheetColumns (fileSheet b)))) (fileOperator b)) (sym gs)
-      (subst (λ c. SameOperator (normalForm (fileNumbers b) (columnsMatrix c)) (fileOperator b)) (sym cs)
+      subst (λ g. SameOperator (normalForm g (columnsMatrix (sheetColumns (fileSheet b)))) (fileOperator b)) (sym sheet-numbers)
+      (subst (λ c. SameOperator (normalForm (fileNumbers b) (columnsMatrix c)) (fileOperator b)) (sym sheet-columns)
       (same-operator-trans (normal-form-same (fileNumbers b) (columnsMatrix (columnBytes C)) C (matrix-columns C (file-cutting .orthogonal))) (same-operator-sym (file-cutting .same))))
 
 -- what the code holds

@@ -11,7 +11,8 @@ use borrow.Author.Tests.{eqb-true, leb-true}
 use Rattle.clifford.specs.Columns.{rowOf, isMinus, isColumnByte, areColumnBytes, arePermutation}
 use Rattle.word.specs.Word.{bit, negated, imageOf, composed}
 use Rattle.word.specs.Laws.Signed.{Axis, e1, e2, e3, e4, e5, e6, Column, col, Perm, perm, turned, apply, times, rowNumber, toByte, fromByte, bytes, fromBytes}
-use Rattle.word.specs.Laws.Every.{and-left, and-right, everyBool, everyAxis, everyColumn, every-column}
+use Rattle.matrix.specs.Laws.Test.{and-left, and-right}
+use Rattle.word.specs.Laws.Every.{everyBool, everyAxis, everyColumn, every-column}
 
 abbrev pub axisOf : Column → Axis
 axisOf (col s a) = a

@@ -1,42 +1,18 @@
 -- Tests at every value of a small type, which antt computes, and that a test which passes says what it tests of each value.
-use mathlib.Core.Path.{_≡_, refl, ap₂, fun-ext, subst}
+use mathlib.Core.Path.{_≡_, refl, fun-ext, subst}
 use mathlib.Core.Bool.{Bool, true, false, _&&_}
 use mathlib.Core.List.{List, [], _∷_, map}
 use Prim.Native.Nat.{ℕ, zero, suc, _+_}
 use native.Mathlib.Nat.{add-zero}
 use native.Mathlib.Omega.{arith}
 use lib.ListN.{length}
-use lib.Dec.{eqb}
-use borrow.Author.Tests.{eqb-true}
+use Rattle.matrix.specs.Laws.Test.{and-left, and-right}
 use Rattle.clifford.specs.Columns.{differs, different}
 use Rattle.word.specs.Laws.Signed.{Axis, e1, e2, e3, e4, e5, e6, Column, col, rowNumber}
-
-pub and-left : (a b : Bool) → (a && b) ≡ true → a ≡ true
-and-left true b e = refl
-and-left false b e = e
-
-pub and-right : (a b : Bool) → (a && b) ≡ true → b ≡ true
-and-right true b e = e
-and-right false b e = cc
 
 pub implied : (a b : Bool) → (elim a [ true ↦ b | false ↦ true ]) ≡ true → a ≡ true → b ≡ true
 implied true b t h = t
 implied false b t h = cc
-
--- ---- equal lists
-
-abbrev pub sameList : List ℕ → List ℕ → Bool
-sameList [] [] = true
-sameList [] (y ∷ ys) = false
-sameList (x ∷ xs) [] = false
-sameList (x ∷ xs) (y ∷ ys) = eqb x y && sameList xs ys
-
-pub same-list : (xs ys : List ℕ) → sameList xs ys ≡ true → xs ≡ ys
-same-list [] [] t = refl
-same-list [] (y ∷ ys) t = cc
-same-list (x ∷ xs) [] t = cc
-same-list (x ∷ xs) (y ∷ ys) t =
-    ap₂ _∷_ (eqb-true x y (and-left (eqb x y) (sameList xs ys) t)) (same-list xs ys (and-right (eqb x y) (sameList xs ys) t))
 
 -- ---- signs, axes and columns
 

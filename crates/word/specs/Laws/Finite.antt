@@ -12,7 +12,9 @@ use Rattle.matrix.specs.Laws.Range.{every-sound}
 use Rattle.clifford.specs.Columns.{rowOf, areColumnBytes, different, inversions, minuses, isEven}
 use Rattle.word.specs.Word.{bit, partWords, partInverses, rotationWords, rotationOf, onSecond}
 use Rattle.word.specs.Laws.Signed.{Axis, e1, e2, e3, e4, e5, e6, Column, col, Perm, perm, image, turned, apply, times, unit, rowNumber, toByte, bytes, fromBytes, evaluated, image-times}
-use Rattle.word.specs.Laws.Every.{and-left, and-right, implied, sameList, same-list, everyBool, everyAxis, everyColumn, every-column, everySigns, every-signs, bySix, by-six, arrangements, every-arrangement}
+use Rattle.matrix.specs.List.{sameList}
+use Rattle.matrix.specs.Laws.Test.{and-left, and-right, same-list}
+use Rattle.word.specs.Laws.Every.{implied, everyBool, everyAxis, everyColumn, every-column, everySigns, every-signs, bySix, by-six, arrangements, every-arrangement}
 use Rattle.word.specs.Laws.Bytes.{axisOf, signOf, row-byte, minus-byte, from-bytes, bytes-valid}
 
 same-perm : (g h : Perm) → sameList (bytes g) (bytes h) ≡ true → g ≡ h

@@ -13,7 +13,8 @@ use Rattle.word.specs.declared.Gate.{Gate}
 use Rattle.word.specs.Gate.{wordMatrix, isCz, isCs, number}
 use Rattle.word.specs.Word.{bit, isLow, partWords, rotationWords, localColumns, onSecond, onQubit, rotationsOf, partsOf, halvesEven, unsignedWord, signWord, cliffordWord, crossings}
 use Rattle.word.specs.Laws.Signed.{Perm, bytes, fromBytes, evaluated}
-use Rattle.word.specs.Laws.Every.{and-left, and-right, everyBool, every-bool}
+use Rattle.matrix.specs.Laws.Test.{and-left, and-right}
+use Rattle.word.specs.Laws.Every.{everyBool, every-bool}
 use Rattle.word.specs.Laws.Bytes.{bytes-from}
 use Rattle.word.specs.Laws.Finite.{rows-bytes, minuses-bytes}
 use Rattle.word.specs.Laws.Decomposition.{Proper, decomposes}

@@ -6,8 +6,8 @@ use mathlib.Core.List.{List, _++_}
 use lib.ListN.{length, getD, take, List·getD-append}
 use lib.Seq.{length-take-le, getD-take, getD-append-add}
 use borrow.Author.Needs.{needs}
-use Rattle.operator.proofs.sheet_byte.Statement.{statement}
-use Rattle.operator.proofs.sheet_byte.Tie as tie
+use Rattle.reduction.proofs.sheet_byte.Statement.{statement}
+use Rattle.reduction.proofs.sheet_byte.Tie as tie
 
 module _ (count n : ℕ) (numbers columns : List ℕ) (h : count ≤ 60) (l : length numbers ≡ 60) where
   taken : length (take count numbers) ≡ count

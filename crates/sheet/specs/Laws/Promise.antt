@@ -1,0 +1,55 @@
+-- The ways out of the call.
+use mathlib.Core.Path.{_≡_, sym, ap, ap₂, _∙_}
+use mathlib.Core.Logic.{_≢_}
+use mathlib.Core.List.{List}
+use Prim.Native.Nat.{ℕ, _≤_, _<_}
+use lib.ListN.{length}
+use borrow.Author.Tests.{eq-eqb, ne-eqb, lt-ltb, le-ltb}
+use Rattle.file.specs.declared.Answer.{Answer}
+use Rattle.file.specs.declared.Answer.the-variants.{Count, Refused}
+use Rattle.file.specs.File.{fileLength, fileOf, written, Short}
+use Rattle.file.specs.Laws.File.{orthogonal-short}
+use Rattle.gate.specs.declared.Read.{Read}
+use Rattle.sheet.specs.Sheet.{sheetRefusal, sheetLeast}
+use Rattle.sheet.specs.Promise.{SheetRead, operatorAnswer, operatorBuffer, OperatorPromise}
+use Rattle.sheet.specs.Laws.Sheet.{accepted, sheet-same-least, sheet-least, sheet-exact, sheet-small, least-orthogonal-sheet}
+
+module _ (s old : List ℕ) (r : Read) (c : SheetRead s r) where
+  promised : {new : List ℕ} {a : Answer} → a ≡ operatorAnswer s (length old) → new ≡ operatorBuffer s old → OperatorPromise s old new a
+  promised p q = record {
+    answer = p;
+    buffer = q;
+    multiplies = λ z. sheet-same-least s (accepted s z);
+    least = λ z. sheet-least s (accepted s z);
+    exact = λ z. sheet-exact s (accepted s z);
+  }
+
+  no-refusal : r .refusal ≡ 0 → sheetRefusal s ≡ 0
+  no-refusal e = sym (c .refusal) ∙ e
+
+  pub turned-away : r .refusal ≢ 0 → OperatorPromise s old old (Refused (r .refusal))
+  unfolding operatorAnswer operatorBuffer
+  turned-away h =
+      let t = ne-eqb (sheetRefusal s) 0 (λ z. h (c .refusal ∙ z)) in
+      promised (rw t (ap Refused (c .refusal))) (rw t)
+
+  pub no-room : r .refusal ≡ 0 → length old < fileLength → OperatorPromise s old old (Refused 6)
+  unfolding operatorAnswer operatorBuffer
+  no-room e h =
+      let t = eq-eqb (sheetRefusal s) 0 (no-refusal e) in
+      let l = lt-ltb (length old) fileLength h in
+      promised (rw (t, l)) (rw (t, l))
+
+  pub done : (new : List ℕ) → r .refusal ≡ 0 → fileLength ≤ length old → new ≡ written old (fileOf (r .exponent) (r .matrix)) → OperatorPromise s old new (Count (r .exponent))
+  unfolding operatorAnswer operatorBuffer
+  done new e h n =
+      let t = eq-eqb (sheetRefusal s) 0 (no-refusal e) in
+      let l = le-ltb (length old) fileLength h in
+      let k = c .exponent (no-refusal e) in
+      promised (rw (t, l) (ap Count k)) (rw (t, l) (n ∙ ap₂ (λ x y. written old (fileOf x y)) k (c .matrix (no-refusal e))))
+
+  -- the entries fit the file
+  pub short : r .refusal ≡ 0 → Short (r .matrix)
+  short e =
+      let z = no-refusal e in
+      rw (c .matrix z) (orthogonal-short (sheetLeast s .exponent) (sheetLeast s .matrix) (sheet-small s (accepted s z)) (least-orthogonal-sheet s (accepted s z)))

@@ -1,0 +1,116 @@
+-- What a sheet that earns no refusal says, and the operator of generator numbers and a Clifford.
+use mathlib.Core.Path.{_≡_, refl, sym, ap, _∙_}
+use mathlib.Core.Bool.{Bool, true, false, not, cond, _&&_, _||_}
+use mathlib.Core.List.{List, [], _∷_}
+use Prim.Native.Nat.{ℕ, suc, _+_, _-_, _≤_, _<_}
+use native.Mathlib.Omega.{arith}
+use lib.Dec.{leb, ltb}
+use lib.ListN.{length, getD, take}
+use lib.Seq.{length-take-le, getD-take}
+use borrow.Author.Tests.{leb-true, ltb-false}
+use Rattle.matrix.specs.List.{sameList}
+use Rattle.matrix.specs.Range.{every}
+use Rattle.matrix.specs.Matrix.{Matrix, entry, listed}
+use Rattle.matrix.specs.Operator.{Operator, operator, SameOperator, Orthogonal, LeastExponent}
+use Rattle.matrix.specs.Laws.Test.{and-left, and-right, same-list}
+use Rattle.matrix.specs.Laws.Range.{every-sound}
+use Rattle.matrix.specs.Laws.Operator.{same-operator-sym, same-operator-trans, same-operator-of, times-orthogonal, same-orthogonal, least-same}
+use Rattle.matrix.specs.Laws.Array.{operatorOf, entry-listed, least-form, least-orthogonal, least-exponent}
+use Rattle.clifford.specs.Columns.{columnsMatrix, areColumnBytes, arePermutation, isEven}
+use Rattle.clifford.specs.Laws.Columns.{permutation-sound, columns-orthogonal}
+use Rattle.residue.specs.Laws.Generator.{generator-orthogonal}
+use Rattle.reduction.specs.Reduction.{sheetOf, normalForm, sheetNumbers, sheetColumns, sheetOperator}
+use Rattle.reduction.specs.Laws.NormalForm.{Numbers, length-sheet}
+use Rattle.sheet.specs.Sheet.{shortest, longest, isNumber, areNumbers, isClifford, sheetRefusal, sheetLeast}
+
+-- bytes that pass the test are generator numbers
+pub numbers-sound : (s : List ℕ) (t : ℕ) → t ≤ length s → every t (λ n. isNumber (getD s n 0)) ≡ true → (i : ℕ) → i < t → (1 ≤ getD s i 0) × (getD s i 0 ≤ 15)
+numbers-sound s t h e i u =
+    let x = every-sound t (λ n. isNumber (getD s n 0)) e i u in
+    let b = getD s i 0 in
+    (leb-true 1 b (and-left (leb 1 b) (leb b 15) x), leb-true b 15 (and-right (leb 1 b) (leb b 15) x))
+
+pub front-numbers : (s : List ℕ) (t : ℕ) → t ≤ length s → every t (λ n. isNumber (getD s n 0)) ≡ true → Numbers (take t s)
+front-numbers s t h e i u =
+    let l : i < t = let x = length-take-le t s h in omega arith in
+    rw (getD-take t s i 0 l) (numbers-sound s t h e i l)
+
+-- generators times a Clifford: the exponent is their number, and the operator is orthogonal
+pub normal-exponent : (gs : List ℕ) (C : Matrix) → normalForm gs C .exponent ≡ length gs
+unfolding normalForm
+normal-exponent [] C = refl
+normal-exponent (g ∷ gs) C = let e = normal-exponent gs C in omega arith
+
+pub normal-orthogonal : (gs : List ℕ) (C : Matrix) → Numbers gs → Orthogonal (operator 0 C) → Orthogonal (normalForm gs C)
+unfolding normalForm
+normal-orthogonal [] C n o = o
+normal-orthogonal (g ∷ gs) C n o =
+    let h = n 0 (omega arith) in
+    times-orthogonal (generator-orthogonal g (h .0) (h .1)) (normal-orthogonal gs C (λ i u. n (suc i) (omega arith)) o)
+
+-- ---- a sheet that earns no refusal
+
+pub record Accepted (s : List ℕ) : Type 0 where
+  pub long : shortest ≤ length s
+  pub short : length s ≤ longest
+  pub numbers : areNumbers s ≡ true
+  pub columns : areColumnBytes (sheetColumns s) ≡ true
+  pub permutation : arePermutation (sheetColumns s) ≡ true
+  pub even : isEven (sheetColumns s) ≡ true
+  pub again : sheetOf (sheetOperator s) ≡ s
+
+pub accepted : (s : List ℕ) → sheetRefusal s ≡ 0 → Accepted s
+unfolding sheetRefusal
+accepted s e =
+    go (ltb (length s) shortest) refl (ltb longest (length s)) refl (areNumbers s && areColumnBytes (sheetColumns s)) refl (isClifford (sheetColumns s)) refl (sameList (sheetOf (sheetOperator s)) s) refl e
+  where
+    go : (a : Bool) → ltb (length s) shortest ≡ a → (b : Bool) → ltb longest (length s) ≡ b → (c : Bool) → (areNumbers s && areColumnBytes (sheetColumns s)) ≡ c → (d : Bool) → isClifford (sheetColumns s) ≡ d → (f : Bool) → sameList (sheetOf (sheetOperator s)) s ≡ f
+        → _≡_ {A = ℕ} (cond (a || b) 10 (cond (not c) 11 (cond (not d) 12 (cond (not f) 13 0)))) 0 → Accepted s
+    go true p b q c r d x f y e = absurd (omega arith)
+    go false p true q c r d x f y e = absurd (omega arith)
+    go false p false q false r d x f y e = absurd (omega arith)
+    go false p false q true r false x f y e = absurd (omega arith)
+    go false p false q true r true x false y e = absurd (omega arith)
+    go false p false q true r true x true y e = record {
+      long = ltb-false _ _ p;
+      short = ltb-false _ _ q;
+      numbers = and-left (areNumbers s) (areColumnBytes (sheetColumns s)) r;
+      columns = and-right (areNumbers s) (areColumnBytes (sheetColumns s)) r;
+      permutation = and-left (arePermutation (sheetColumns s)) (isEven (sheetColumns s)) x;
+      even = and-right (arePermutation (sheetColumns s)) (isEven (sheetColumns s)) x;
+      again = same-list _ _ y;
+    }
+
+-- an array that holds the entries stands for the same matrix
+pub listed-same : (A : Operator) → SameOperator A (operator (A .exponent) (entry (listed (A .matrix))))
+listed-same A = same-operator-of A (operator (A .exponent) (entry (listed (A .matrix)))) refl (λ i j hi hj. sym (entry-listed (A .matrix) i j hi hj))
+
+module _ (s : List ℕ) (a : Accepted s) where
+  pub sheet-orthogonal : Orthogonal (sheetOperator s)
+  sheet-orthogonal =
+      normal-orthogonal (sheetNumbers s) (columnsMatrix (sheetColumns s)) (front-numbers s (length s - 6) (omega arith) (a .numbers))
+      (columns-orthogonal (sheetColumns s) (permutation-sound (sheetColumns s) (a .permutation)))
+
+  listed-orthogonal : Orthogonal (operator (sheetOperator s .exponent) (entry (listed (sheetOperator s .matrix))))
+  listed-orthogonal = same-orthogonal (listed-same (sheetOperator s)) sheet-orthogonal
+
+  pub least-orthogonal-sheet : Orthogonal (operatorOf (sheetLeast s))
+  unfolding sheetLeast
+  least-orthogonal-sheet = least-orthogonal (sheetOperator s .exponent) (listed (sheetOperator s .matrix)) listed-orthogonal
+
+  pub sheet-same-least : SameOperator (operatorOf (sheetLeast s)) (sheetOperator s)
+  unfolding sheetLeast
+  sheet-same-least =
+      same-operator-sym (same-operator-trans (listed-same (sheetOperator s)) (least-form (sheetOperator s .exponent) (listed (sheetOperator s .matrix)) .same))
+
+  pub sheet-least : LeastExponent (sheetOperator s) (sheetLeast s .exponent)
+  unfolding sheetLeast
+  sheet-least = least-same (same-operator-sym (listed-same (sheetOperator s))) (least-exponent (sheetOperator s .exponent) (listed (sheetOperator s .matrix)) listed-orthogonal)
+
+  -- a sheet has as many generators as its count says
+  pub sheet-exact : length s ≡ sheetLeast s .exponent + 6
+  unfolding sheetLeast
+  sheet-exact = sym (ap length (a .again)) ∙ length-sheet (sheetOperator s .exponent) (listed (sheetOperator s .matrix)) listed-orthogonal
+
+  pub sheet-small : sheetLeast s .exponent ≤ 28
+  sheet-small = let e = sheet-exact in let h = a .short in omega arith

@@ -1,0 +1,48 @@
+-- What the call from a sheet to an operator file promises.
+use mathlib.Core.Bool.{true, not, cond}
+use mathlib.Core.List.{List}
+use mathlib.Core.Path.{_≡_}
+use Prim.Native.Nat.{ℕ, _+_}
+use lib.Dec.{eqb, ltb}
+use lib.IntN.{ℤ}
+use lib.ListN.{length}
+use Rattle.matrix.specs.List.{sameList}
+use Rattle.matrix.specs.Operator.{SameOperator, LeastExponent}
+use Rattle.matrix.specs.Array.{leastForm}
+use Rattle.matrix.specs.Laws.Array.{operatorOf}
+use Rattle.file.specs.declared.Answer.{Answer}
+use Rattle.file.specs.declared.Answer.the-variants.{Count, Refused}
+use Rattle.file.specs.File.{fileLength, fileOf, written}
+use Rattle.reduction.specs.Reduction.{sheet, sheetOperator}
+use Rattle.gate.specs.declared.Read.{Read}
+use Rattle.sheet.specs.Sheet.{sheetRefusal, sheetLeast}
+
+-- what is kept of an operator that is to have this sheet: 13, or 0 and the operator at the least exponent
+pub record CutAgain (s : List ℕ) (k : ℕ) (m : List ℤ) (r : Read) : Type 0 where
+  pub refusal : r .refusal ≡ cond (not (sameList (sheet k m) s)) 13 0
+  pub exponent : sameList (sheet k m) s ≡ true → r .exponent ≡ leastForm k m .exponent
+  pub matrix : sameList (sheet k m) s ≡ true → r .matrix ≡ leastForm k m .matrix
+
+-- what is kept of a sheet: the number of its refusal, or 0 and its operator at the least exponent
+pub record SheetRead (s : List ℕ) (r : Read) : Type 0 where
+  pub refusal : r .refusal ≡ sheetRefusal s
+  pub exponent : sheetRefusal s ≡ 0 → r .exponent ≡ sheetLeast s .exponent
+  pub matrix : sheetRefusal s ≡ 0 → r .matrix ≡ sheetLeast s .matrix
+
+-- the answer, where the lent buffer has n bytes: "Sheets 10, 11, 12, 13, 6", and 6 is "shorter than … 73 bytes for an operator"
+unfoldable pub operatorAnswer : List ℕ → ℕ → Answer
+operatorAnswer s n = cond (eqb (sheetRefusal s) 0) (cond (ltb n fileLength) (Refused 6) (Count (sheetLeast s .exponent))) (Refused (sheetRefusal s))
+
+-- the buffer afterwards
+unfoldable pub operatorBuffer : List ℕ → List ℕ → List ℕ
+operatorBuffer s old =
+    cond (eqb (sheetRefusal s) 0) (cond (ltb (length old) fileLength) old (written old (fileOf (sheetLeast s .exponent) (sheetLeast s .matrix)))) old
+
+pub record OperatorPromise (s old new : List ℕ) (a : Answer) : Type 0 where
+  pub answer : a ≡ operatorAnswer s (length old)
+  pub buffer : new ≡ operatorBuffer s old
+  -- demand 2: the file's operator is the sheet's, its generators in order times its Clifford
+  pub multiplies : sheetRefusal s ≡ 0 → SameOperator (operatorOf (sheetLeast s)) (sheetOperator s)
+  -- demand 3: the count is the operator's least exponent, and the number of the sheet's generators
+  pub least : sheetRefusal s ≡ 0 → LeastExponent (sheetOperator s) (sheetLeast s .exponent)
+  pub exact : sheetRefusal s ≡ 0 → length s ≡ sheetLeast s .exponent + 6

@@ -1,0 +1,45 @@
+-- Sheets handed in (document 01, "The maker of a sheet").
+use mathlib.Core.Bool.{Bool, not, cond, _&&_, _||_}
+use mathlib.Core.List.{List}
+use Prim.Native.Nat.{ℕ, _-_}
+use lib.Dec.{leb, ltb}
+use lib.ListN.{length, getD}
+use Rattle.matrix.specs.declared.Least.{Least}
+use Rattle.matrix.specs.List.{sameList}
+use Rattle.matrix.specs.Range.{every}
+use Rattle.matrix.specs.Matrix.{listed}
+use Rattle.matrix.specs.Array.{leastForm}
+use Rattle.clifford.specs.Columns.{areColumnBytes, arePermutation, isEven}
+use Rattle.reduction.specs.Reduction.{sheetOf, sheetColumns, sheetOperator}
+
+-- "length below 6 or above 34"
+abbrev pub shortest : ℕ
+shortest = 6
+
+abbrev pub longest : ℕ
+longest = 34
+
+-- "1 to 15"
+abbrev pub isNumber : ℕ → Bool
+isNumber g = leb 1 g && leb g 15
+
+-- whether every byte before the last six is a generator's number
+abbrev pub areNumbers : List ℕ → Bool
+areNumbers s = every (length s - 6) (λ n. isNumber (getD s n 0))
+
+-- whether six column bytes are those of a Clifford
+abbrev pub isClifford : List ℕ → Bool
+isClifford bs = arePermutation bs && isEven bs
+
+-- the refusals of a sheet in their order: "10: length below 6 or above 34", "11: a generator byte outside 1 to 15, or a column byte outside 1
+-- to 6 and 129 to 134", "12: the six columns are no Clifford", "13: cutting its operator gives another sheet". 0 is none
+unfoldable pub sheetRefusal : List ℕ → ℕ
+sheetRefusal s =
+    cond (ltb (length s) shortest || ltb longest (length s)) 10
+    (cond (not (areNumbers s && areColumnBytes (sheetColumns s))) 11
+    (cond (not (isClifford (sheetColumns s))) 12
+    (cond (not (sameList (sheetOf (sheetOperator s)) s)) 13 0)))
+
+-- a sheet's operator at its least exponent
+unfoldable pub sheetLeast : List ℕ → Least
+sheetLeast s = leastForm (sheetOperator s .exponent) (listed (sheetOperator s .matrix))

@@ -1,0 +1,169 @@
+// Sheets read into operator files: refusals 10 to 13 and 6. The contracts cite specs/.
+
+use file::Answer;
+use gate::Read;
+ghost use mathlib.Core.Bool.{true};
+ghost use mathlib.Core.List.{_++_};
+ghost use mathlib.Core.Path.{_≡_};
+ghost use Prim.Native.Nat.{_+_, _≤_};
+ghost use lib.ListN.{length, getD, take, drop};
+ghost use Rattle.matrix.specs.List.{sameList};
+ghost use Rattle.matrix.specs.Range.{every};
+ghost use Rattle.matrix.specs.Matrix.{entry, listed};
+ghost use Rattle.matrix.specs.Operator.{operator, Orthogonal};
+ghost use Rattle.clifford.specs.Columns.{arePermutation, columnsMatrix};
+ghost use Rattle.reduction.specs.Reduction.{normalForm};
+ghost use Rattle.sheet.specs.Sheet.{isNumber};
+ghost use Rattle.sheet.specs.Promise.{CutAgain, SheetRead, OperatorPromise};
+
+// The fewest and the most bytes of a sheet.
+pub const SHORTEST: usize = 6;
+
+pub const LONGEST: usize = 34;
+
+// Whether the first `count` bytes are generator numbers.
+fn are_numbers(bytes: &[u8], count: usize) -> bool
+    requires { ⌜ count ≤ length (now bytes) ⌝ }
+    ensures { λ r. ⌜ r ≡ every count (λ n. isNumber (getD (now (bytes .entry)) n 0)) ⌝ }
+{
+    let mut n = 0usize;
+    while n < count {
+        let g = bytes[n];
+        if g < 1 {
+            return false;
+        }
+        if 15 < g {
+            return false;
+        }
+        n += 1;
+    }
+    true
+}
+
+// The last six bytes, from `at` on.
+fn columns_from(bytes: &[u8], at: usize) -> [u8; 6]
+    requires { ⌜ length (now bytes) ≡ at + 6 ⌝ }
+    ensures { λ r. ⌜ r ≡ drop at (now (bytes .entry)) ⌝ }
+{
+    let mut columns = [0u8; 6];
+    let mut c = 0usize;
+    while c < 6 {
+        columns[c] = bytes[at + c];
+        c += 1;
+    }
+    columns
+}
+
+// The product of the first `count` generators and a Clifford.
+fn multiplied(bytes: &[u8], count: usize, columns: [u8; 6]) -> [i64; 36]
+    requires { ⌜ (count ≤ 28) × (count ≤ length (now bytes)) × (every count (λ n. isNumber (getD (now bytes) n 0)) ≡ true) × (arePermutation columns ≡ true) ⌝ }
+    ensures { λ r. ⌜ r ≡ listed (normalForm (take count (now (bytes .entry))) (columnsMatrix columns) .matrix) ⌝ }
+{
+    let mut m = gate::identity();
+    let mut n = 0usize;
+    while n < count {
+        let next = gate::times_generator(m, bytes[n] as usize);
+        m = next;
+        n += 1;
+    }
+    gate::times_columns(m, columns)
+}
+
+// Whether the bytes are the sheet of the first `count` generator numbers and a Clifford.
+fn is_sheet(bytes: &[u8], count: u8, numbers: [u8; 60], columns: [u8; 6]) -> bool
+    requires { ⌜ count ≤ 60 ⌝ }
+    ensures { λ r. ⌜ r ≡ sameList (take count numbers ++ columns) (now (bytes .entry)) ⌝ }
+{
+    if bytes.len() != count as usize + 6 {
+        return false;
+    }
+    let mut n = 0usize;
+    while n < bytes.len() {
+        if reduction::sheet_byte(count, numbers, columns, n) != bytes[n] {
+            return false;
+        }
+        n += 1;
+    }
+    true
+}
+
+// A refusal, with nothing beside it.
+fn refused(refusal: u8) -> Read
+    ensures { λ r. ⌜ r .refusal ≡ refusal ⌝ }
+{
+    Read {
+        refusal,
+        exponent: 0,
+        matrix: [0; 36],
+    }
+}
+
+// The operator (count, m) at its least exponent, if cutting it gives these bytes.
+fn cut_again(bytes: &[u8], count: u8, m: [i64; 36]) -> Read
+    requires { ⌜ (count ≤ 28) × Orthogonal (operator count (entry m)) ⌝ }
+    ensures { λ r. ⌜ CutAgain (now (bytes .entry)) count m r ⌝ }
+{
+    let normal = reduction::normal_form(count, m);
+    let t = normal.count;
+    let numbers = normal.numbers;
+    let remaining = normal.matrix;
+    let columns = clifford::columns_of(remaining);
+    if !is_sheet(bytes, t, numbers, columns) {
+        return refused(13);
+    }
+    let least = matrix::least_form(count, m);
+    let exponent = least.exponent;
+    let matrix = least.matrix;
+    Read {
+        refusal: 0,
+        exponent,
+        matrix,
+    }
+}
+
+// The refusal of a sheet, or its operator at the least exponent.
+fn read_sheet(bytes: &[u8]) -> Read
+    ensures { λ r. ⌜ SheetRead (now (bytes .entry)) r ⌝ }
+{
+    if bytes.len() < SHORTEST {
+        return refused(10);
+    }
+    if LONGEST < bytes.len() {
+        return refused(10);
+    }
+    let count = bytes.len() - 6;
+    if !are_numbers(bytes, count) {
+        return refused(11);
+    }
+    let columns = columns_from(bytes, count);
+    if !clifford::are_column_bytes(columns) {
+        return refused(11);
+    }
+    if !clifford::rows_differ(columns) {
+        return refused(12);
+    }
+    if !clifford::is_even(columns) {
+        return refused(12);
+    }
+    let m = multiplied(bytes, count, columns);
+    cut_again(bytes, count as u8, m)
+}
+
+// A sheet into an operator file at the front of `out`.
+// Wrong, and refused: a sheet taken in that cutting would not give; the generators multiplied in the other order.
+pub fn sheet_to_operator(bytes: &[u8], out: &mut [u8]) -> Answer
+    ensures { λ r. ⌜ OperatorPromise (now (bytes .entry)) (now (out .entry)) (now (out .exit)) r ⌝ }
+{
+    let read = read_sheet(bytes);
+    let refusal = read.refusal;
+    if refusal != 0 {
+        return Answer::Refused(refusal);
+    }
+    if out.len() < file::FILE_LENGTH {
+        return Answer::Refused(6);
+    }
+    let exponent = read.exponent;
+    let matrix = read.matrix;
+    file::encode(exponent, matrix, out);
+    Answer::Count(exponent)
+}
