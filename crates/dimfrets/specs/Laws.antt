@@ -1,0 +1,2 @@
+-- Theorems, a file for each subject.
+pub mod Encoding

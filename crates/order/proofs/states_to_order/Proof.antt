@@ -1,0 +1,58 @@
+-- Within the limits nothing overflows: t × p is at most 28,000.
+use mathlib.Core.Path.{_≡_}
+use Prim.Native.Nat.{ℕ, _*_, _≤_, _<_}
+use native.Mathlib.Nat.{mul-le-mul}
+use native.Mathlib.Omega.{arith}
+use borrow.Author.Tests.{lt-ltb, le-ltb}
+use Rattle.file.specs.declared.Answer.the-variants.{Count, Refused}
+use Rattle.file.specs.File.{largestExponent}
+use Rattle.order.specs.Order.{largestSpoilage, roundedUp, figure, orderAnswer}
+use borrow.Author.Needs.{needs}
+use Rattle.order.proofs.states_to_order.Statement.{statement}
+use Rattle.order.proofs.states_to_order.Tie as tie
+
+many : (t p : ℕ) → largestExponent < t → Refused 14 ≡ orderAnswer t p
+unfolding orderAnswer
+many t p h = rw (lt-ltb largestExponent t h)
+
+spoilt : (t p : ℕ) → t ≤ largestExponent → largestSpoilage < p → Refused 14 ≡ orderAnswer t p
+unfolding orderAnswer
+spoilt t p l h = rw (le-ltb largestExponent t l, lt-ltb largestSpoilage p h)
+
+module _ (t p : ℕ) (l : t ≤ largestExponent) (h : p ≤ largestSpoilage) where
+  product : t * p ≤ 28000
+  product = mul-le-mul l h
+
+  ordered : Count (figure t p) ≡ orderAnswer t p
+  unfolding orderAnswer
+  ordered = rw (le-ltb largestExponent t l, le-ltb largestSpoilage p h)
+
+cast-if1 : tie.Need-cast-if1
+cast-if1 c = search needs
+
+returns : tie.Need-returns
+returns c = many _ _ (c .if1 .taken)
+
+returns-2 : tie.Need-returns-2
+returns-2 c = spoilt _ _ (c .before .if1 .left) (c .if2 .taken)
+
+mul-states : tie.Need-mul-states
+mul-states c = let m = product _ _ (c .before .if1 .left) (c .if2 .left) in omega arith
+
+add-states : tie.Need-add-states
+add-states c = let m = product _ _ (c .before .if1 .left) (c .if2 .left) in omega arith
+
+add-states-2 : tie.Need-add-states-2
+add-states-2 c = let m = product _ _ (c .before .if1 .left) (c .if2 .left) in omega arith
+
+cast-t8 : tie.Need-cast-t8
+cast-t8 c = let m = product _ _ (c .before .if1 .left) (c .if2 .left) in omega arith
+
+returns-3 : tie.Need-returns-3
+unfolding roundedUp
+returns-3 c = ordered _ _ (c .before .if1 .left) (c .if2 .left)
+
+pub states-to-order-spec : {M : Type 1} → statement M
+states-to-order-spec =
+    tie.close
+    (tie.spec cast-if1 returns returns-2 mul-states add-states add-states-2 cast-t8 returns-3)
