@@ -1,19 +1,24 @@
 -- Products with a generator or a Clifford on the right, an entry at a time.
 use mathlib.Core.Bool.{cond}
+use mathlib.Core.List.{List}
 use Prim.Native.Nat.{ℕ}
-use lib.Dec.{eqb, ltb}
+use lib.Dec.{ltb}
 use lib.IntN.{ℤ, negℤ, _+ℤ_, _-ℤ_}
+use lib.ListN.{getD, set, replicate}
 use Rattle.matrix.specs.Matrix.{Matrix}
 use Rattle.clifford.specs.Columns.{rowOf, isMinus}
 use Rattle.residue.specs.Generator.{low, high}
 
--- the other of pair p of generator g, where c is in it; rows are counted from 0
-abbrev pub partnerIn : ℕ → ℕ → ℕ → ℕ → ℕ
-partnerIn g p c other = cond (eqb c (low g p)) (high g p) (cond (eqb c (high g p)) (low g p) other)
+-- the partners of the columns, with those of pair p of generator g; columns are counted from 0
+abbrev pub paired : ℕ → ℕ → List ℕ → List ℕ
+paired g p ps = set (set ps (low g p) (high g p)) (high g p) (low g p)
+
+unfoldable pub partners : ℕ → List ℕ
+partners g = paired g 2 (paired g 1 (paired g 0 (replicate 6 0)))
 
 -- the other of the pair in which generator g has c
-unfoldable pub partner : ℕ → ℕ → ℕ
-partner g c = partnerIn g 0 c (partnerIn g 1 c (partnerIn g 2 c c))
+abbrev pub partner : ℕ → ℕ → ℕ
+partner g c = getD (partners g) c 0
 
 -- M times a generator, where p is the partner of c
 abbrev pub pairEntry : Matrix → ℕ → ℕ → ℕ → ℤ

@@ -9,7 +9,6 @@ ghost use mathlib.Core.List.{[]};
 ghost use lib.ListN.{length, take};
 ghost use mathlib.Core.Bool.{true};
 ghost use Prim.Native.Nat.{_+_, _*_, _^_, _≤_, _<_};
-ghost use Rattle.matrix.specs.Range.{tabulate};
 ghost use Rattle.matrix.specs.Matrix.{δ, entry, listed, product};
 ghost use Rattle.matrix.specs.Operator.{operator, Orthogonal};
 ghost use Rattle.matrix.specs.Array.{Bounded};
@@ -22,50 +21,33 @@ ghost use Rattle.word.specs.Gate.{gateOf};
 ghost use Rattle.word.specs.Written.{Written};
 ghost use Rattle.gate.specs.List.{leftOf, rightOf, stretch, gateList};
 ghost use Rattle.gate.specs.Reading.{multiplied, readByte, ReadAs, readFrom, reading, operatorAnswer, operatorBuffer};
-ghost use Rattle.gate.specs.Times.{partnerIn, partner, pairEntry, signedEntry};
+ghost use Rattle.gate.specs.Times.{paired, partners, pairEntry, signedEntry};
 
-// The other of pair p of generator g, if c is in that pair.
-fn partner_in(g: usize, p: usize, c: usize, other: usize) -> usize
+// The partners of the columns, with those of pair p of generator g.
+fn paired_by(partners: [usize; 6], g: usize, p: usize) -> [usize; 6]
     requires { ⌜ (1 ≤ g) × (g ≤ 15) × (p < 3) ⌝ }
-    ensures { λ r. ⌜ r ≡ partnerIn g p c other ⌝ }
+    ensures { λ r. ⌜ r ≡ paired g p partners ⌝ }
 {
-    let low = residue::low_row(g, p);
-    let high = residue::high_row(g, p);
-    if c == low {
-        return high;
-    }
-    if c == high {
-        return low;
-    }
-    other
+    let i = residue::low_row(g, p);
+    let j = residue::high_row(g, p);
+    let mut out = partners;
+    out[i] = j;
+    out[j] = i;
+    out
 }
 
-// The other of the pair in which generator g has c.
-fn partner_of(g: usize, c: usize) -> usize
-    requires { ⌜ (1 ≤ g) × (g ≤ 15) ⌝ }
-    ensures { λ r. ⌜ r ≡ partner g c ⌝ }
-{
-    partner_in(g, 0, c, partner_in(g, 1, c, partner_in(g, 2, c, c)))
-}
-
-// The partners of the six columns.
+// The other of the pair in which generator g has each column.
 fn partners_of(g: usize) -> [usize; 6]
     requires { ⌜ (1 ≤ g) × (g ≤ 15) ⌝ }
-    ensures { λ r. ⌜ r ≡ tabulate (partner g) 0 6 ⌝ }
+    ensures { λ r. ⌜ r ≡ partners g ⌝ }
 {
-    let mut partners = [0usize; 6];
-    let mut c = 0usize;
-    while c < 6 {
-        partners[c] = partner_of(g, c);
-        c += 1;
-    }
-    partners
+    paired_by(paired_by(paired_by([0; 6], g, 0), g, 1), g, 2)
 }
 
 // An entry of the product with a generator, where p is the partner of c.
-fn pair_entry(m: [i64; 36], r: usize, c: usize, p: usize) -> i64
-    requires { ⌜ (r < 6) × (c < 6) × (p < 6) × Bounded (2 ^ 30) (entry m) ⌝ }
-    ensures { λ x. ⌜ x ≡ pairEntry (entry m) r c p ⌝ }
+fn pair_entry(m: &[i64; 36], r: usize, c: usize, p: usize) -> i64
+    requires { ⌜ (r < 6) × (c < 6) × (p < 6) × Bounded (2 ^ 30) (entry (now m)) ⌝ }
+    ensures { λ x. ⌜ x ≡ pairEntry (entry (now (m .entry))) r c p ⌝ }
 {
     if c < p {
         return m[r * 6 + c] + m[r * 6 + p];
@@ -83,16 +65,16 @@ pub fn times_generator(m: [i64; 36], g: usize) -> [i64; 36]
     let mut n = 0usize;
     while n < 36 {
         let c = n % 6;
-        out[n] = pair_entry(m, n / 6, c, partners[c]);
+        out[n] = pair_entry(&m, n / 6, c, partners[c]);
         n += 1;
     }
     out
 }
 
 // An entry of the product with a Clifford, in the column of byte b.
-fn signed_entry(m: [i64; 36], r: usize, b: u8) -> i64
-    requires { ⌜ (r < 6) × (isColumnByte b ≡ true) × Bounded (2 ^ 30) (entry m) ⌝ }
-    ensures { λ x. ⌜ x ≡ signedEntry (entry m) r b ⌝ }
+fn signed_entry(m: &[i64; 36], r: usize, b: u8) -> i64
+    requires { ⌜ (r < 6) × (isColumnByte b ≡ true) × Bounded (2 ^ 30) (entry (now m)) ⌝ }
+    ensures { λ x. ⌜ x ≡ signedEntry (entry (now (m .entry))) r b ⌝ }
 {
     let row = clifford::row_of(b) as usize;
     if 129 <= b {
@@ -109,7 +91,7 @@ pub fn times_columns(m: [i64; 36], columns: [u8; 6]) -> [i64; 36]
     let mut out = [0i64; 36];
     let mut n = 0usize;
     while n < 36 {
-        out[n] = signed_entry(m, n / 6, columns[n % 6]);
+        out[n] = signed_entry(&m, n / 6, columns[n % 6]);
         n += 1;
     }
     out

@@ -23,9 +23,9 @@ pub fn power_of_two(k: u8) -> i64
 }
 
 // The product of rows i and j.
-pub fn row_product(m: [i64; 36], i: usize, j: usize) -> i64
-    requires { ⌜ (i < 6) × (j < 6) × Bounded (2 ^ 30) (entry m) ⌝ }
-    ensures { λ r. ⌜ r ≡ rowProduct 6 (entry m) i j ⌝ }
+pub fn row_product(m: &[i64; 36], i: usize, j: usize) -> i64
+    requires { ⌜ (i < 6) × (j < 6) × Bounded (2 ^ 30) (entry (now m)) ⌝ }
+    ensures { λ r. ⌜ r ≡ rowProduct 6 (entry (now (m .entry))) i j ⌝ }
 {
     let mut sum = 0i64;
     let mut c = 0usize;
@@ -48,8 +48,8 @@ pub fn parity_of(x: i64) -> u8
 }
 
 // Whether every entry is even.
-pub fn all_even(m: [i64; 36]) -> bool
-    ensures { λ r. ⌜ r ≡ allEven (entry m) ⌝ }
+pub fn all_even(m: &[i64; 36]) -> bool
+    ensures { λ r. ⌜ r ≡ allEven (entry (now (m .entry))) ⌝ }
 {
     let mut n = 0usize;
     while n < 36 {
@@ -75,9 +75,9 @@ pub fn halve(m: [i64; 36]) -> [i64; 36]
 }
 
 // Whether rows i and j, where i is not the later one, have the product of orthogonal rows: norm of a row with itself, else 0.
-fn rows_orthogonal(m: [i64; 36], i: usize, j: usize, norm: i64) -> bool
-    requires { ⌜ (i < 6) × (j < 6) × Bounded (2 ^ 30) (entry m) ⌝ }
-    ensures { λ r. ⌜ r ≡ orthogonalAt norm (entry m) i j ⌝ }
+fn rows_orthogonal(m: &[i64; 36], i: usize, j: usize, norm: i64) -> bool
+    requires { ⌜ (i < 6) × (j < 6) × Bounded (2 ^ 30) (entry (now m)) ⌝ }
+    ensures { λ r. ⌜ r ≡ orthogonalAt norm (entry (now (m .entry))) i j ⌝ }
 {
     if j < i {
         return true;
@@ -97,7 +97,7 @@ pub fn is_orthogonal(k: u8, m: [i64; 36]) -> bool
     let norm = power_of_two(k);
     let mut n = 0usize;
     while n < 36 {
-        if !rows_orthogonal(m, n / 6, n % 6, norm) {
+        if !rows_orthogonal(&m, n / 6, n % 6, norm) {
             return false;
         }
         n += 1;
@@ -123,9 +123,9 @@ pub fn is_within(k: u8, m: [i64; 36]) -> bool
 }
 
 // The odd entries of row r as bits, that of column 0 lowest.
-pub fn row_mask(m: [i64; 36], r: usize) -> u8
+pub fn row_mask(m: &[i64; 36], r: usize) -> u8
     requires { ⌜ r < 6 ⌝ }
-    ensures { λ s. ⌜ s ≡ rowMask (entry m) r ⌝ }
+    ensures { λ s. ⌜ s ≡ rowMask (entry (now (m .entry))) r ⌝ }
 {
     let mut mask = 0u8;
     let mut c = 6usize;
@@ -137,9 +137,9 @@ pub fn row_mask(m: [i64; 36], r: usize) -> u8
 }
 
 // How many entries of row r are odd.
-pub fn row_weight(m: [i64; 36], r: usize) -> u32
+pub fn row_weight(m: &[i64; 36], r: usize) -> u32
     requires { ⌜ r < 6 ⌝ }
-    ensures { λ s. ⌜ s ≡ rowWeight (entry m) r ⌝ }
+    ensures { λ s. ⌜ s ≡ rowWeight (entry (now (m .entry))) r ⌝ }
 {
     u8::count_ones(row_mask(m, r))
 }
@@ -151,7 +151,7 @@ pub fn least_form(k: u8, m: [i64; 36]) -> Least
     let mut exponent = k;
     let mut matrix = m;
     while 2 <= exponent {
-        if !all_even(matrix) {
+        if !all_even(&matrix) {
             return Least { exponent, matrix };
         }
         let half = halve(matrix);

@@ -46,7 +46,7 @@ fn reduce(k: u8, m: [i64; 36]) -> Normal
     let mut matrix = m;
     let mut n = 0u8;
     while n < k {
-        let g = residue::first_fit(matrix);
+        let g = residue::first_fit(&matrix);
         let next = cut_by(matrix, g);
         numbers[n as usize] = g as u8;
         matrix = next;

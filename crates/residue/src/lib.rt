@@ -9,7 +9,7 @@ ghost use Rattle.residue.specs.Generator.{low, high, fits, firstFit};
 ghost use Rattle.residue.specs.Masks.{maskAt};
 
 // The three pairs of each generator, in the order of their numbers; rows are counted from 0.
-const PAIRS: [[usize; 6]; 15] = [
+const PAIRS: [[u8; 6]; 15] = [
     [0, 1, 2, 3, 4, 5],
     [0, 1, 2, 4, 3, 5],
     [0, 1, 2, 5, 3, 4],
@@ -27,12 +27,19 @@ const PAIRS: [[usize; 6]; 15] = [
     [0, 5, 1, 4, 2, 3],
 ];
 
+// A number of 8 bits as an index.
+fn wide(x: u8) -> usize
+    ensures { λ r. ⌜ r ≡ x ⌝ }
+{
+    x as usize
+}
+
 // The first row of pair p of generator g.
 pub fn low_row(g: usize, p: usize) -> usize
     requires { ⌜ (1 ≤ g) × (g ≤ 15) × (p < 3) ⌝ }
     ensures { λ r. ⌜ r ≡ low g p ⌝ }
 {
-    PAIRS[g - 1][p * 2]
+    wide(PAIRS[g - 1][p * 2])
 }
 
 // The second row of pair p of generator g.
@@ -40,12 +47,12 @@ pub fn high_row(g: usize, p: usize) -> usize
     requires { ⌜ (1 ≤ g) × (g ≤ 15) × (p < 3) ⌝ }
     ensures { λ r. ⌜ r ≡ high g p ⌝ }
 {
-    PAIRS[g - 1][p * 2 + 1]
+    wide(PAIRS[g - 1][p * 2 + 1])
 }
 
 // The masks of the six rows.
-pub fn row_masks(m: [i64; 36]) -> [u8; 6]
-    ensures { λ r. ⌜ r ≡ tabulate (rowMask (entry m)) 0 6 ⌝ }
+pub fn row_masks(m: &[i64; 36]) -> [u8; 6]
+    ensures { λ r. ⌜ r ≡ tabulate (rowMask (entry (now (m .entry)))) 0 6 ⌝ }
 {
     let mut masks = [0u8; 6];
     let mut r = 0usize;
@@ -88,8 +95,8 @@ fn first_that_fits(masks: [u8; 6]) -> usize
 }
 
 // The lowest-numbered generator whose every pair lies inside a group of rows, or 16.
-pub fn first_fit(m: [i64; 36]) -> usize
-    ensures { λ r. ⌜ r ≡ firstFit (rowMask (entry m)) ⌝ }
+pub fn first_fit(m: &[i64; 36]) -> usize
+    ensures { λ r. ⌜ r ≡ firstFit (rowMask (entry (now (m .entry)))) ⌝ }
 {
     first_that_fits(row_masks(m))
 }

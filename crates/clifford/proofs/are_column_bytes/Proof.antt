@@ -6,10 +6,10 @@ use native.Mathlib.Nat.{le-of-eq}
 use mathlib.Core.Bool.{_&&_}
 use mathlib.Core.List.{List}
 use lib.ListN.{length, getD, drop, drop-of-length-le}
-use Rattle.matrix.specs.Laws.Test.{off, on}
 use Rattle.matrix.specs.Laws.Range.{drop-down}
 use Rattle.clifford.specs.Columns.{isColumnByte, areColumnBytes}
 use borrow.Author.Needs.{needs}
+use borrow.Author.Tests.{not-true, not-false}
 use Rattle.clifford.proofs.are_column_bytes.Statement.{statement}
 use Rattle.clifford.proofs.are_column_bytes.Tie as tie
 
@@ -42,7 +42,7 @@ loop-again : tie.Need-loop-again Inv-loop μ-loop
 loop-again c =
     let l = c .before .before .before in
     let s = l .before in
-    (omega arith, sym (earlier (s .args .t1) (l .loop .c) (s .good .0 .1 .0 .1) (omega arith) (omega arith) ∙ rw (sym (c .before .is-column-byte .ensures) ∙ off _ (c .if1 .taken))))
+    (omega arith, sym (earlier (s .args .t1) (l .loop .c) (s .good .0 .1 .0 .1) (omega arith) (omega arith) ∙ rw (sym (c .before .is-column-byte .ensures) ∙ not-true _ (c .if1 .taken))))
 
 loop-less-2 : tie.Need-loop-less-2 Inv-loop μ-loop
 loop-less-2 c = search needs
@@ -51,7 +51,7 @@ loop-again-2 : tie.Need-loop-again-2 Inv-loop μ-loop
 loop-again-2 c =
     let l = c .before .before .before in
     let s = l .before in
-    (omega arith, sym (earlier (s .args .t1) (l .loop .c) (s .good .0 .1 .0 .1) (omega arith) (omega arith) ∙ rw (sym (c .before .is-column-byte .ensures) ∙ on _ (c .if1 .left)) (sym (l .loop .inv .1))))
+    (omega arith, sym (earlier (s .args .t1) (l .loop .c) (s .good .0 .1 .0 .1) (omega arith) (omega arith) ∙ rw (sym (c .before .is-column-byte .ensures) ∙ not-false _ (c .if1 .left)) (sym (l .loop .inv .1))))
 
 returns : tie.Need-returns Inv-loop μ-loop
 returns c = let z : c .before .loop .c ≡ 0 = omega arith in c .before .loop .inv .1 ∙ rw z

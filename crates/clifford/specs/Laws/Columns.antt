@@ -11,12 +11,12 @@ use native.Mathlib.Decide.{ℕ-discrete, decLt}
 use lib.Dec.{T, eqb, leb, eqb→eq, leb→le}
 use lib.IntN.{ℤ, pos, negsuc, natAbs, _*ℤ_, *ℤ-zero, zero-*ℤ, pos-ne-negsuc}
 use lib.ListN.{length, getD, length-map, List·getD-map}
-use borrow.Author.Tests.{eq-eqb, ne-eqb, eqb-false, le-leb, lt-leb}
+use borrow.Author.Tests.{eq-eqb, ne-eqb, eqb-false, le-leb, lt-leb, not-true}
 use Rattle.matrix.specs.Range.{sum, total}
 use Rattle.matrix.specs.Integer.{equals}
 use Rattle.matrix.specs.Matrix.{Matrix, Same, δ, transpose, OrthogonalRows}
 use Rattle.matrix.specs.Operator.{operator, Orthogonal, Proper}
-use Rattle.matrix.specs.Laws.Test.{left, right, or-elim, T-true, true-T, off}
+use Rattle.matrix.specs.Laws.Test.{left, right, or-elim, T-true, true-T}
 use Rattle.matrix.specs.Laws.Integer.{pos-nz, *ℤ-unit-r, equals-yes, equals-no, prodℤ}
 use Rattle.matrix.specs.Laws.Sum.{sum-cong, sum-only, δ-same, δ-other, sum-δ}
 use Rattle.matrix.specs.Laws.Range.{first-found, getD-tabulate, tabulate-is, length-tabulate}
@@ -87,7 +87,7 @@ bytes-product b b′ p q =
 
 differs-sound : (r : ℕ) (ss : List ℕ) → differs r ss ≡ true → (i : ℕ) → i < length ss → getD ss i 0 ≢ r
 differs-sound r [] e i h = absurd (omega arith)
-differs-sound r (s ∷ ss) e zero h = λ z. eqb-false r s (off (eqb r s) (T-true _ (left (not (eqb r s)) _ (true-T e)))) (sym z)
+differs-sound r (s ∷ ss) e zero h = λ z. eqb-false r s (not-true (eqb r s) (T-true _ (left (not (eqb r s)) _ (true-T e)))) (sym z)
 differs-sound r (s ∷ ss) e (suc i) h = differs-sound r ss (T-true _ (right (not (eqb r s)) _ (true-T e))) i (omega arith)
 
 different-sound : (rs : List ℕ) → different rs ≡ true → (i j : ℕ) → i < j → j < length rs → getD rs j 0 ≢ getD rs i 0

@@ -10,6 +10,7 @@ use mir.Val.{toZ, ofZ}
 use Rattle.matrix.specs.Matrix.{entry}
 use Rattle.matrix.specs.Array.{Bounded}
 use Rattle.matrix.specs.Laws.Machine.{Sized, fits, again, stored, add, sub}
+use denote.Ref.{now}
 use borrow.Author.Needs.{needs}
 use Rattle.gate.proofs.pair_entry.Statement.{statement}
 use Rattle.gate.proofs.pair_entry.Tie as tie
@@ -36,8 +37,8 @@ add-result c = search needs
 mul-result-2 : tie.Need-mul-result-2
 mul-result-2 c = search needs
 
-array-copy-out-result : tie.Need-array-copy-out-result
-array-copy-out-result c = search needs
+element-copy-out-result : tie.Need-element-copy-out-result
+element-copy-out-result c = search needs
 
 mul-result-3 : tie.Need-mul-result-3
 mul-result-3 c = search needs
@@ -48,14 +49,14 @@ add-result-2 c = search needs
 mul-result-4 : tie.Need-mul-result-4
 mul-result-4 c = search needs
 
-array-copy-out-result-2 : tie.Need-array-copy-out-result-2
-array-copy-out-result-2 c = search needs
+element-copy-out-result-2 : tie.Need-element-copy-out-result-2
+element-copy-out-result-2 c = search needs
 
 add-result-3 : tie.Need-add-result-3
-add-result-3 c = let s = c .before .before .before in let a = s .args in let p = s .pre in fits (plus (a .t1) (a .r) (a .c) (a .p) (p .0) (p .1) (p .2) (p .3)) (lit< tt)
+add-result-3 c = let s = c .before .before .before in let a = s .args in let p = s .pre in fits (plus (now (a .m)) (a .r) (a .c) (a .p) (p .0) (p .1) (p .2) (p .3)) (lit< tt)
 
 returns : tie.Need-returns
-returns c = let s = c .before .before .before in let a = s .args in let p = s .pre in again (plus (a .t1) (a .r) (a .c) (a .p) (p .0) (p .1) (p .2) (p .3)) (lit< tt) .is ∙ rw (lt-ltb (a .c) (a .p) (c .before .before .if1 .taken))
+returns c = let s = c .before .before .before in let a = s .args in let p = s .pre in again (plus (now (a .m)) (a .r) (a .c) (a .p) (p .0) (p .1) (p .2) (p .3)) (lit< tt) .is ∙ rw (lt-ltb (a .c) (a .p) (c .before .before .if1 .taken))
 
 mul-result-5 : tie.Need-mul-result-5
 mul-result-5 c = search needs
@@ -66,8 +67,8 @@ add-result-4 c = search needs
 mul-result-6 : tie.Need-mul-result-6
 mul-result-6 c = search needs
 
-array-copy-out-result-3 : tie.Need-array-copy-out-result-3
-array-copy-out-result-3 c = search needs
+element-copy-out-result-3 : tie.Need-element-copy-out-result-3
+element-copy-out-result-3 c = search needs
 
 mul-result-7 : tie.Need-mul-result-7
 mul-result-7 c = search needs
@@ -78,14 +79,14 @@ add-result-5 c = search needs
 mul-result-8 : tie.Need-mul-result-8
 mul-result-8 c = search needs
 
-array-copy-out-result-4 : tie.Need-array-copy-out-result-4
-array-copy-out-result-4 c = search needs
+element-copy-out-result-4 : tie.Need-element-copy-out-result-4
+element-copy-out-result-4 c = search needs
 
 sub-result : tie.Need-sub-result
-sub-result c = let s = c .before .before .before in let a = s .args in let p = s .pre in fits (less (a .t1) (a .r) (a .c) (a .p) (p .0) (p .1) (p .2) (p .3)) (lit< tt)
+sub-result c = let s = c .before .before .before in let a = s .args in let p = s .pre in fits (less (now (a .m)) (a .r) (a .c) (a .p) (p .0) (p .1) (p .2) (p .3)) (lit< tt)
 
 returns-2 : tie.Need-returns-2
-returns-2 c = let s = c .before .before .before in let a = s .args in let p = s .pre in again (less (a .t1) (a .r) (a .c) (a .p) (p .0) (p .1) (p .2) (p .3)) (lit< tt) .is ∙ rw (le-ltb (a .c) (a .p) (c .before .before .if1 .left))
+returns-2 c = let s = c .before .before .before in let a = s .args in let p = s .pre in again (less (now (a .m)) (a .r) (a .c) (a .p) (p .0) (p .1) (p .2) (p .3)) (lit< tt) .is ∙ rw (le-ltb (a .c) (a .p) (c .before .before .if1 .left))
 
 pub pair-entry-spec : {M : Type 1} → statement M
 pair-entry-spec =
@@ -94,20 +95,20 @@ pair-entry-spec =
     mul-result
     add-result
     mul-result-2
-    array-copy-out-result
+    element-copy-out-result
     mul-result-3
     add-result-2
     mul-result-4
-    array-copy-out-result-2
+    element-copy-out-result-2
     add-result-3
     returns
     mul-result-5
     add-result-4
     mul-result-6
-    array-copy-out-result-3
+    element-copy-out-result-3
     mul-result-7
     add-result-5
     mul-result-8
-    array-copy-out-result-4
+    element-copy-out-result-4
     sub-result
     returns-2)

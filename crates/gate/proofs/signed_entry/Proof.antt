@@ -15,6 +15,7 @@ use Rattle.matrix.specs.Laws.Ring.{var, num, :neg, _:-_, ring}
 use Rattle.matrix.specs.Laws.Machine.{Sized, fits, again, exact, stored, sub}
 use Rattle.clifford.specs.Columns.{isColumnByte, rowOf}
 use Rattle.clifford.specs.Laws.Columns.{row-lt}
+use denote.Ref.{now}
 use borrow.Author.Needs.{needs}
 use Rattle.gate.proofs.signed_entry.Statement.{statement}
 use Rattle.gate.proofs.signed_entry.Tie as tie
@@ -47,14 +48,14 @@ add-result c = search needs
 mul-result-2 : tie.Need-mul-result-2
 mul-result-2 c = search needs
 
-array-copy-out-result : tie.Need-array-copy-out-result
-array-copy-out-result c = let s = c .before .before in let a = s .args in let p = s .pre in inside (a .t1) (a .r) (a .b) _ (p .0) (p .1) (p .2) (c .before .row-of .ensures)
+element-copy-out-result : tie.Need-element-copy-out-result
+element-copy-out-result c = let s = c .before .before in let a = s .args in let p = s .pre in inside (now (a .m)) (a .r) (a .b) _ (p .0) (p .1) (p .2) (c .before .row-of .ensures)
 
 sub-result : tie.Need-sub-result
-sub-result c = let s = c .before .before .before in let a = s .args in let p = s .pre in fits (negative (a .t1) (a .r) (a .b) _ (p .0) (p .1) (p .2) (c .before .before .row-of .ensures)) (lit< tt)
+sub-result c = let s = c .before .before .before in let a = s .args in let p = s .pre in fits (negative (now (a .m)) (a .r) (a .b) _ (p .0) (p .1) (p .2) (c .before .before .row-of .ensures)) (lit< tt)
 
 returns : tie.Need-returns
-returns c = let s = c .before .before .before in let a = s .args in let p = s .pre in again (negative (a .t1) (a .r) (a .b) _ (p .0) (p .1) (p .2) (c .before .before .row-of .ensures)) (lit< tt) .is ∙ minus-is (a .t1) (a .r) (a .b) _ (p .0) (p .1) (p .2) (c .before .before .row-of .ensures) ∙ rw (le-leb 129 (a .b) (c .before .if1 .taken))
+returns c = let s = c .before .before .before in let a = s .args in let p = s .pre in again (negative (now (a .m)) (a .r) (a .b) _ (p .0) (p .1) (p .2) (c .before .before .row-of .ensures)) (lit< tt) .is ∙ minus-is (now (a .m)) (a .r) (a .b) _ (p .0) (p .1) (p .2) (c .before .before .row-of .ensures) ∙ rw (le-leb 129 (a .b) (c .before .if1 .taken))
 
 mul-result-3 : tie.Need-mul-result-3
 mul-result-3 c = search needs
@@ -65,11 +66,11 @@ add-result-2 c = search needs
 mul-result-4 : tie.Need-mul-result-4
 mul-result-4 c = search needs
 
-array-copy-out-result-2 : tie.Need-array-copy-out-result-2
-array-copy-out-result-2 c = let s = c .before .before in let a = s .args in let p = s .pre in inside (a .t1) (a .r) (a .b) _ (p .0) (p .1) (p .2) (c .before .row-of .ensures)
+element-copy-out-result-2 : tie.Need-element-copy-out-result-2
+element-copy-out-result-2 c = let s = c .before .before in let a = s .args in let p = s .pre in inside (now (a .m)) (a .r) (a .b) _ (p .0) (p .1) (p .2) (c .before .row-of .ensures)
 
 returns-2 : tie.Need-returns-2
-returns-2 c = let s = c .before .before .before in let a = s .args in let p = s .pre in value (a .t1) (a .r) (a .b) _ (p .0) (p .1) (p .2) (c .before .before .row-of .ensures) .is ∙ rw (lt-leb 129 (a .b) (c .before .if1 .left))
+returns-2 c = let s = c .before .before .before in let a = s .args in let p = s .pre in value (now (a .m)) (a .r) (a .b) _ (p .0) (p .1) (p .2) (c .before .before .row-of .ensures) .is ∙ rw (lt-leb 129 (a .b) (c .before .if1 .left))
 
 pub signed-entry-spec : {M : Type 1} → statement M
 signed-entry-spec =
@@ -80,11 +81,11 @@ signed-entry-spec =
     mul-result
     add-result
     mul-result-2
-    array-copy-out-result
+    element-copy-out-result
     sub-result
     returns
     mul-result-3
     add-result-2
     mul-result-4
-    array-copy-out-result-2
+    element-copy-out-result-2
     returns-2)

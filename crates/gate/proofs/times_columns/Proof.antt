@@ -34,8 +34,9 @@ array-read-signed-entry c = search needs
 
 signed-entry-requires : tie.Need-signed-entry-requires Inv-loop μ-loop
 signed-entry-requires c κs =
-    let s = c .before .before in
-    (omega arith, permutation-sound (s .args .t2) (s .pre .0) .bytes (c .before .loop .n % 6) (omega arith), s .pre .1)
+    let l = c .before .before in
+    let s = l .before in
+    (omega arith, permutation-sound (s .args .t2) (s .pre .0) .bytes (l .loop .n % 6) (omega arith), s .pre .1)
 
 mul-out : tie.Need-mul-out Inv-loop μ-loop
 mul-out c = search needs
@@ -51,7 +52,7 @@ loop-less c = search needs
 
 loop-again : tie.Need-loop-again Inv-loop μ-loop
 loop-again c =
-    let l = c .before .before in
+    let l = c .before .before .before in
     (search needs, filled-more _ _ _ (l .loop .n) (l .loop .out) _ (l .loop .inv .1) (omega arith) (kept (c .signed-entry .ok) ∙ c .signed-entry .ensures))
 
 returns : tie.Need-returns Inv-loop μ-loop
@@ -60,7 +61,7 @@ returns c =
     let s = c .before .before in
     let e : c .before .loop .n ≡ 36 = omega arith in
     filled-all _ _ _ 36 _ (rw e at (c .before .loop .inv .1)) refl
-    ∙ sym (listed-cong _ _ (times-columns (s .args .t2) (permutation-sound (s .args .t2) (s .pre .0)) (entry (s .args .m))))
+    ∙ sym (listed-cong _ _ (times-columns (s .args .t2) (permutation-sound (s .args .t2) (s .pre .0)) (entry (s .args .t1))))
 
 pub times-columns-spec : {M : Type 1} → statement M
 times-columns-spec =

@@ -21,14 +21,11 @@ use Rattle.gate.proofs.times_generator.Tie as tie
 abbrev pair-at : List ℤ → ℕ → ℕ → ℤ
 pair-at m g n = pairEntry (entry m) (n / 6) (n % 6) (partner g (n % 6))
 
-partner-at : (g n : ℕ) (ps : List ℕ) → ps ≡ tabulate (partner g) 0 6 → getD ps (n % 6) 0 ≡ partner g (n % 6)
-partner-at g n ps e = ap (λ x. getD x (n % 6) 0) e ∙ getD-tabulate (partner g) 0 6 (n % 6) 0 (omega arith) ∙ ap (partner g) (zero-add (n % 6))
-
 abbrev Inv-loop : tie.InvT-loop
-Inv-loop m g partners out₀ n₀ out n = (n ≤ 36) × Filled (pos 0) (pair-at m g) out₀ n out
+Inv-loop g m partners out₀ n₀ out n = (n ≤ 36) × Filled (pos 0) (pair-at m g) out₀ n out
 
 abbrev μ-loop : tie.MeasureT-loop
-μ-loop m g partners out₀ n₀ out n = 36 - n
+μ-loop g m partners out₀ n₀ out n = 36 - n
 
 partners-of-requires : tie.Need-partners-of-requires Inv-loop μ-loop
 partners-of-requires c κs = search needs
@@ -44,9 +41,9 @@ array-read-pair-entry c = search needs
 
 pair-entry-requires : tie.Need-pair-entry-requires Inv-loop μ-loop
 pair-entry-requires c κs =
-    let s = c .before .before .before in
-    let n = c .before .loop .n in
-    (omega arith, omega arith, rw (partner-at (s .args .g) n _ (c .before .before .partners-of .ensures)) (partner-lt (s .args .g) (s .pre .0) (s .pre .1) (n % 6) (omega arith)), s .pre .2)
+    let l = c .before .before in
+    let s = l .before .before in
+    (omega arith, omega arith, rw (l .before .partners-of .ensures) (partner-lt (s .args .g) (s .pre .0) (s .pre .1) (l .loop .n % 6) (omega arith)), s .pre .2)
 
 mul-out : tie.Need-mul-out Inv-loop μ-loop
 mul-out c = search needs
@@ -62,11 +59,11 @@ loop-less c = search needs
 
 loop-again : tie.Need-loop-again Inv-loop μ-loop
 loop-again c =
-    let l = c .before .before in
+    let l = c .before .before .before in
     let s = l .before .before in (
       search needs,
       filled-more _ _ _ (l .loop .n) (l .loop .out) _ (l .loop .inv .1) (omega arith)
-          (kept (c .pair-entry .ok) ∙ c .pair-entry .ensures ∙ ap (pairEntry (entry (s .args .m)) (l .loop .n / 6) (l .loop .n % 6)) (partner-at (s .args .g) (l .loop .n) _ (l .before .partners-of .ensures))),
+          (kept (c .pair-entry .ok) ∙ c .pair-entry .ensures ∙ ap (λ ps. pairEntry (entry (s .args .t1)) (l .loop .n / 6) (l .loop .n % 6) (getD ps (l .loop .n % 6) 0)) (l .before .partners-of .ensures)),
     )
 
 returns : tie.Need-returns Inv-loop μ-loop
@@ -75,7 +72,7 @@ returns c =
     let s = c .before .before .before in
     let e : c .before .loop .n ≡ 36 = omega arith in
     filled-all _ _ _ 36 _ (rw e at (c .before .loop .inv .1)) refl
-    ∙ sym (listed-cong _ _ (times-generator (s .args .g) (s .pre .0) (s .pre .1) (entry (s .args .m))))
+    ∙ sym (listed-cong _ _ (times-generator (s .args .g) (s .pre .0) (s .pre .1) (entry (s .args .t1))))
 
 pub times-generator-spec : {M : Type 1} → statement M
 times-generator-spec =

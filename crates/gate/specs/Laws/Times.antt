@@ -20,7 +20,7 @@ use Rattle.clifford.specs.Columns.{columnsMatrix, rowOf, isMinus}
 use Rattle.clifford.specs.Laws.Columns.{Permutation, entryOf, row-lt, column-entry}
 use Rattle.residue.specs.Generator.{table, place, generator}
 use Rattle.residue.specs.Laws.Table.{numbered}
-use Rattle.gate.specs.Times.{partner, pairEntry, signedEntry}
+use Rattle.gate.specs.Times.{partners, partner, pairEntry, signedEntry}
 
 -- 1 or −1
 abbrev sign : ℕ → ℕ → ℤ
@@ -30,7 +30,7 @@ isPair : ℕ → Bool
 isPair g = every 6 (λ c. ltb (partner g c) 6) && everywhere (λ t c. equals (generator g t c) (pos 1 *ℤ δ t c +ℤ sign c (partner g c) *ℤ δ t (partner g c)))
 
 all-pairs : every 15 (λ a. isPair (suc a)) ≡ true
-unfolding everyFrom isPair partner generator place table sum δ
+unfolding everyFrom isPair partners generator place table sum δ
 all-pairs = refl
 
 module _ (g : ℕ) (l : 1 ≤ g) (u : g ≤ 15) where

@@ -5,6 +5,7 @@ use mathlib.Core.Path.{_≡_, refl, sym, ap, _∙_}
 use Prim.Native.Nat.{ℕ, _-_, _/_, _%_, _≤_}
 use native.Mathlib.Omega.{arith}
 use borrow.Author.Needs.{needs}
+use denote.Ref.{now}
 use borrow.Author.Tests.{eq-eqb, ne-eqb}
 use lib.Dec.{eqb}
 use lib.IntN.{ℤ}
@@ -34,8 +35,8 @@ loop-holds c = (search needs, refl)
 mul-parity-of : tie.Need-mul-parity-of Inv-loop μ-loop
 mul-parity-of c = search needs
 
-array-copy-out-parity-of : tie.Need-array-copy-out-parity-of Inv-loop μ-loop
-array-copy-out-parity-of c = search needs
+element-copy-out-parity-of : tie.Need-element-copy-out-parity-of Inv-loop μ-loop
+element-copy-out-parity-of c = search needs
 
 parity-of-requires : tie.Need-parity-of-requires Inv-loop μ-loop
 parity-of-requires c κs = search needs
@@ -43,7 +44,7 @@ parity-of-requires c κs = search needs
 returns : tie.Need-returns Inv-loop μ-loop
 returns c =
     let l = c .before .before .before .before in
-    let m = l .before .args .t1 in
+    let m = now (l .before .args .m) in
     let q = c .before .parity-of .ensures ∙ ap parity (kept (c .before .before .parity-of-arg .given) ∙ sym (entry-flat m (l .loop .n))) in
     sym (l .loop .inv .1 ∙ every-stop (even-at m) 36 (l .loop .n) (omega arith) (ne-eqb _ _ (λ z. c .if1 .taken (q ∙ z))))
 
@@ -56,7 +57,7 @@ loop-less c = search needs
 loop-again : tie.Need-loop-again Inv-loop μ-loop
 loop-again c =
     let l = c .before .before .before .before in
-    let m = l .before .args .t1 in
+    let m = now (l .before .args .m) in
     let q = c .before .parity-of .ensures ∙ ap parity (kept (c .before .before .parity-of-arg .given) ∙ sym (entry-flat m (l .loop .n))) in
     (search needs, l .loop .inv .1 ∙ every-next (even-at m) 36 (l .loop .n) (omega arith) (eq-eqb _ _ (sym q ∙ c .if1 .left)))
 
@@ -72,7 +73,7 @@ all-even-spec =
     μ-loop
     loop-holds
     mul-parity-of
-    array-copy-out-parity-of
+    element-copy-out-parity-of
     parity-of-requires
     returns
     add-n

@@ -38,10 +38,10 @@ rows-orthogonal-requires c κs = search needs
 
 returns : tie.Need-returns Inv-loop μ-loop
 returns c =
-    let l = c .before .before .before in
+    let l = c .before .before .before .before in
     let a = l .before .before .args in
-    let t = c .before .rows-orthogonal .ensures ∙ ap (λ q. orthogonalAt q (entry (a .m)) (l .loop .n / 6) (l .loop .n % 6)) (l .loop .inv .1) in
-    sym (l .loop .inv .2 ∙ every-stop (test-at (a .k) (a .m)) 36 (l .loop .n) (omega arith) (sym t ∙ not-true _ (c .if1 .taken)))
+    let t = c .before .rows-orthogonal .ensures ∙ ap (λ q. orthogonalAt q (entry (a .t2)) (l .loop .n / 6) (l .loop .n % 6)) (l .loop .inv .1) in
+    sym (l .loop .inv .2 ∙ every-stop (test-at (a .k) (a .t2)) 36 (l .loop .n) (omega arith) (sym t ∙ not-true _ (c .if1 .taken)))
 
 add-n : tie.Need-add-n Inv-loop μ-loop
 add-n c = search needs
@@ -51,10 +51,10 @@ loop-less c = search needs
 
 loop-again : tie.Need-loop-again Inv-loop μ-loop
 loop-again c =
-    let l = c .before .before .before in
+    let l = c .before .before .before .before in
     let a = l .before .before .args in
-    let t = c .before .rows-orthogonal .ensures ∙ ap (λ q. orthogonalAt q (entry (a .m)) (l .loop .n / 6) (l .loop .n % 6)) (l .loop .inv .1) in
-    (search needs, l .loop .inv .1, l .loop .inv .2 ∙ every-next (test-at (a .k) (a .m)) 36 (l .loop .n) (omega arith) (sym t ∙ not-false _ (c .if1 .left)))
+    let t = c .before .rows-orthogonal .ensures ∙ ap (λ q. orthogonalAt q (entry (a .t2)) (l .loop .n / 6) (l .loop .n % 6)) (l .loop .inv .1) in
+    (search needs, l .loop .inv .1, l .loop .inv .2 ∙ every-next (test-at (a .k) (a .t2)) 36 (l .loop .n) (omega arith) (sym t ∙ not-false _ (c .if1 .left)))
 
 returns-2 : tie.Need-returns-2 Inv-loop μ-loop
 unfolding everyFrom

@@ -22,7 +22,7 @@ all-even-requires c κs = search needs
 
 returns : tie.Need-returns Inv-loop μ-loop
 returns c =
-    let l = c .before .before .before in
+    let l = c .before .before .before .before in
     sym (l .loop .inv ∙ least-odd (l .loop .exponent) (l .loop .matrix) (sym (c .before .all-even .ensures) ∙ not-true _ (c .if1 .taken)))
 
 halve-requires : tie.Need-halve-requires Inv-loop μ-loop
@@ -33,9 +33,9 @@ loop-less c = search needs
 
 loop-again : tie.Need-loop-again Inv-loop μ-loop
 loop-again c =
-    let l = c .before .before .before .before in
+    let l = c .before .before .before .before .before in
     l .loop .inv
-    ∙ least-turn (l .loop .exponent) (l .loop .matrix) (c .before .before .before .loop-test .taken) (sym (c .before .before .all-even .ensures) ∙ not-false _ (c .before .if1 .left))
+    ∙ least-turn (l .loop .exponent) (l .loop .matrix) (c .before .before .before .before .loop-test .taken) (sym (c .before .before .all-even .ensures) ∙ not-false _ (c .before .if1 .left))
     ∙ ap (leastForm (l .loop .exponent - 2)) (sym (c .halve .ensures))
 
 returns-2 : tie.Need-returns-2 Inv-loop μ-loop

@@ -12,6 +12,7 @@ use Rattle.matrix.specs.Laws.Range.{bits-down, bits-small}
 use Rattle.matrix.specs.Laws.Parity.{parity-lt}
 use Rattle.matrix.specs.Laws.Machine.{kept}
 use borrow.Author.Needs.{needs}
+use denote.Ref.{now}
 use Rattle.matrix.proofs.row_mask.Statement.{statement}
 use Rattle.matrix.proofs.row_mask.Tie as tie
 
@@ -22,10 +23,10 @@ one-bit : (m : List ℤ) (r c : ℕ) → odd-at m r c < 2
 one-bit m r c = parity-lt (entry m r c)
 
 abbrev Inv-loop : tie.InvT-loop
-Inv-loop r m mask₀ c₀ mask c = (c ≤ 6) × (mask ≡ bits (odd-at m r) c (6 - c))
+Inv-loop m r mask₀ c₀ mask c = (c ≤ 6) × (mask ≡ bits (odd-at m r) c (6 - c))
 
 abbrev μ-loop : tie.MeasureT-loop
-μ-loop r m mask₀ c₀ mask c = c
+μ-loop m r mask₀ c₀ mask c = c
 
 loop-holds : tie.Need-loop-holds Inv-loop μ-loop
 unfolding bits
@@ -43,8 +44,8 @@ add-parity-of c = search needs
 mul-parity-of-2 : tie.Need-mul-parity-of-2 Inv-loop μ-loop
 mul-parity-of-2 c = search needs
 
-array-copy-out-parity-of : tie.Need-array-copy-out-parity-of Inv-loop μ-loop
-array-copy-out-parity-of c = search needs
+element-copy-out-parity-of : tie.Need-element-copy-out-parity-of Inv-loop μ-loop
+element-copy-out-parity-of c = search needs
 
 parity-of-requires : tie.Need-parity-of-requires Inv-loop μ-loop
 parity-of-requires c κs = search needs
@@ -52,7 +53,7 @@ parity-of-requires c κs = search needs
 mul-mask : tie.Need-mul-mask Inv-loop μ-loop
 mul-mask c =
     let l = c .before .before .before in
-    let m = l .before .args .t1 in
+    let m = now (l .before .args .m) in
     let r = l .before .args .r in
     let h : l .loop .mask < 32 = bits-small (odd-at m r) (one-bit m r) 6 (l .loop .c) (omega arith) (l .loop .inv .0) (l .loop .mask) (l .loop .inv .1) in
     omega arith
@@ -60,7 +61,7 @@ mul-mask c =
 add-mask : tie.Need-add-mask Inv-loop μ-loop
 add-mask c =
     let l = c .before .before .before in
-    let m = l .before .args .t1 in
+    let m = now (l .before .args .m) in
     let r = l .before .args .r in
     let h : l .loop .mask < 32 = bits-small (odd-at m r) (one-bit m r) 6 (l .loop .c) (omega arith) (l .loop .inv .0) (l .loop .mask) (l .loop .inv .1) in
     let p : c .parity-of .result < 2 = rw (c .parity-of .ensures) (parity-lt _) in
@@ -72,7 +73,7 @@ loop-less c = search needs
 loop-again : tie.Need-loop-again Inv-loop μ-loop
 loop-again c =
     let l = c .before .before .before in
-    let m = l .before .args .t1 in
+    let m = now (l .before .args .m) in
     let r = l .before .args .r in
     (search needs, bits-down (odd-at m r) (one-bit m r) 6 (l .loop .c) (omega arith) (l .loop .inv .0) (l .loop .mask) _ (l .loop .inv .1) (c .parity-of .ensures ∙ ap parity (kept (c .before .parity-of-arg .given))))
 
@@ -91,7 +92,7 @@ row-mask-spec =
     mul-parity-of
     add-parity-of
     mul-parity-of-2
-    array-copy-out-parity-of
+    element-copy-out-parity-of
     parity-of-requires
     mul-mask
     add-mask

@@ -7,6 +7,7 @@ use lib.Dec.{lit<}
 use lib.IntN.{ℤ, _+ℤ_, _*ℤ_}
 use mathlib.Core.List.{List}
 use borrow.Author.Needs.{needs}
+use denote.Ref.{now}
 use mir.Syntax.{w64}
 use mir.Val.{toZ, ofZ}
 use Rattle.matrix.specs.Range as range
@@ -23,10 +24,10 @@ abbrev term : List ℤ → ℕ → ℕ → ℕ → ℤ
 term m i j s = entry m i s *ℤ entry m j s
 
 abbrev Inv-loop : tie.InvT-loop
-Inv-loop i j m sum₀ c₀ sum c = (c ≤ 6) × (toZ w64 sum ≡ range.sum c (term m i j))
+Inv-loop m i j sum₀ c₀ sum c = (c ≤ 6) × (toZ w64 sum ≡ range.sum c (term m i j))
 
 abbrev μ-loop : tie.MeasureT-loop
-μ-loop i j m sum₀ c₀ sum c = 6 - c
+μ-loop m i j sum₀ c₀ sum c = 6 - c
 
 -- what a turn computes
 module _ (m : List ℤ) (i j s x : ℕ) (hi : i < 6) (hj : j < 6) (hs : s < 6) (b : Bounded (2 ^ 30) (entry m)) (e : toZ w64 x ≡ range.sum s (term m i j)) where
@@ -55,8 +56,8 @@ add-sum c = search needs
 mul-sum-2 : tie.Need-mul-sum-2 Inv-loop μ-loop
 mul-sum-2 c = search needs
 
-array-copy-out-sum : tie.Need-array-copy-out-sum Inv-loop μ-loop
-array-copy-out-sum c = search needs
+element-copy-out-sum : tie.Need-element-copy-out-sum Inv-loop μ-loop
+element-copy-out-sum c = search needs
 
 mul-sum-3 : tie.Need-mul-sum-3 Inv-loop μ-loop
 mul-sum-3 c = search needs
@@ -67,22 +68,22 @@ add-sum-2 c = search needs
 mul-sum-4 : tie.Need-mul-sum-4 Inv-loop μ-loop
 mul-sum-4 c = search needs
 
-array-copy-out-sum-2 : tie.Need-array-copy-out-sum-2 Inv-loop μ-loop
-array-copy-out-sum-2 c = search needs
+element-copy-out-sum-2 : tie.Need-element-copy-out-sum-2 Inv-loop μ-loop
+element-copy-out-sum-2 c = search needs
 
 mul-sum-5 : tie.Need-mul-sum-5 Inv-loop μ-loop
 mul-sum-5 c =
     let l = c .before .before .before in
     let a = l .before .args in
     let p = l .before .pre in
-    fits (product (a .t1) (a .i) (a .j) (l .loop .c) (l .loop .sum) (p .0) (p .1) (c .before .before .loop-test .taken) (p .2) (l .loop .inv .1)) (lit< tt)
+    fits (product (now (a .m)) (a .i) (a .j) (l .loop .c) (l .loop .sum) (p .0) (p .1) (c .before .before .loop-test .taken) (p .2) (l .loop .inv .1)) (lit< tt)
 
 add-sum-3 : tie.Need-add-sum-3 Inv-loop μ-loop
 add-sum-3 c =
     let l = c .before .before .before in
     let a = l .before .args in
     let p = l .before .pre in
-    fits (next (a .t1) (a .i) (a .j) (l .loop .c) (l .loop .sum) (p .0) (p .1) (c .before .before .loop-test .taken) (p .2) (l .loop .inv .1)) (omega arith)
+    fits (next (now (a .m)) (a .i) (a .j) (l .loop .c) (l .loop .sum) (p .0) (p .1) (c .before .before .loop-test .taken) (p .2) (l .loop .inv .1)) (omega arith)
 
 add-c : tie.Need-add-c Inv-loop μ-loop
 add-c c = search needs
@@ -96,7 +97,7 @@ loop-again c =
     let l = c .before .before .before in
     let a = l .before .args in
     let p = l .before .pre in
-    (search needs, rw add-one (again (next (a .t1) (a .i) (a .j) (l .loop .c) (l .loop .sum) (p .0) (p .1) (c .before .before .loop-test .taken) (p .2) (l .loop .inv .1)) (omega arith) .is))
+    (search needs, rw add-one (again (next (now (a .m)) (a .i) (a .j) (l .loop .c) (l .loop .sum) (p .0) (p .1) (c .before .before .loop-test .taken) (p .2) (l .loop .inv .1)) (omega arith) .is))
 
 returns : tie.Need-returns Inv-loop μ-loop
 returns c = let six : c .before .loop .c ≡ 6 = omega arith in c .before .loop .inv .1 ∙ rw six
@@ -111,11 +112,11 @@ row-product-spec =
     mul-sum
     add-sum
     mul-sum-2
-    array-copy-out-sum
+    element-copy-out-sum
     mul-sum-3
     add-sum-2
     mul-sum-4
-    array-copy-out-sum-2
+    element-copy-out-sum-2
     mul-sum-5
     add-sum-3
     add-c

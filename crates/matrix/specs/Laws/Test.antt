@@ -30,15 +30,6 @@ T-true false t = absurd t
 pub true-T : {b : Bool} → b ≡ true → T b
 true-T e = subst T (sym e) tt
 
--- a test that the code negates
-pub off : (t : Bool) → not t ≡ true → t ≡ false
-off true e = sym e
-off false e = refl
-
-pub on : (t : Bool) → not t ≡ false → t ≡ true
-on true e = refl
-on false e = sym e
-
 pub and-left : (a b : Bool) → (a && b) ≡ true → a ≡ true
 and-left true b e = refl
 and-left false b e = e

@@ -7,11 +7,10 @@ use mathlib.Core.Bool.{Bool, true, false, not, cond}
 use mathlib.Core.List.{List}
 use lib.IntN.{ℤ}
 use lib.ListN.{length}
-use borrow.Author.Tests.{eq-eqb, ne-eqb, lt-ltb}
+use borrow.Author.Tests.{eq-eqb, ne-eqb, lt-ltb, not-true, not-false}
 use Rattle.matrix.specs.Matrix.{entry}
 use Rattle.matrix.specs.Operator.{operator, Orthogonal}
 use Rattle.matrix.specs.Array.{isWithin, isOrthogonal}
-use Rattle.matrix.specs.Laws.Test.{off, on}
 use Rattle.matrix.specs.Laws.Array.{orthogonal-sound}
 use Rattle.file.specs.File.{largestExponent, fileLength, fileExponent, fileMatrix}
 use Rattle.file.specs.Laws.File.{file-bounded}
@@ -105,7 +104,7 @@ refused-requires-3 c κs = search needs
 
 returns-3 : tie.Need-returns-3
 returns-3 c =
-    refused-as _ _ 3 (omega arith) (third _ (c .before .before .before .before .before .before .if1 .left) (c .before .before .before .before .if2 .left) _ (c .before .before .before .decode .ensures) (sym (c .before .before .is-within .ensures) ∙ off _ (c .before .if3 .taken))) (c .refused3 .ensures)
+    refused-as _ _ 3 (omega arith) (third _ (c .before .before .before .before .before .before .if1 .left) (c .before .before .before .before .if2 .left) _ (c .before .before .before .decode .ensures) (sym (c .before .before .is-within .ensures) ∙ not-true _ (c .before .if3 .taken))) (c .refused3 .ensures)
 
 is-orthogonal-requires : tie.Need-is-orthogonal-requires
 is-orthogonal-requires c κs = (omega arith, rw (c .before .before .decode .ensures) (file-bounded _ (λ i. c .before .before .before .before .before .before .shared-slice-known .given i .fits)))
@@ -115,10 +114,10 @@ refused-requires-4 c κs = search needs
 
 returns-4 : tie.Need-returns-4
 returns-4 c =
-    refused-as _ _ 4 (omega arith) (fourth _ (c .before .before .before .before .before .before .before .before .if1 .left) (c .before .before .before .before .before .before .if2 .left) _ (c .before .before .before .before .before .decode .ensures) (sym (c .before .before .before .before .is-within .ensures) ∙ on _ (c .before .before .before .if3 .left)) (sym (c .before .before .is-orthogonal .ensures) ∙ off _ (c .before .if4 .taken))) (c .refused4 .ensures)
+    refused-as _ _ 4 (omega arith) (fourth _ (c .before .before .before .before .before .before .before .before .if1 .left) (c .before .before .before .before .before .before .if2 .left) _ (c .before .before .before .before .before .decode .ensures) (sym (c .before .before .before .before .is-within .ensures) ∙ not-false _ (c .before .before .before .if3 .left)) (sym (c .before .before .is-orthogonal .ensures) ∙ not-true _ (c .before .if4 .taken))) (c .refused4 .ensures)
 
 normal-form-requires : tie.Need-normal-form-requires
-normal-form-requires c κs = (omega arith, orthogonal-sound _ _ (sym (c .before .is-orthogonal .ensures) ∙ on _ (c .if4 .left)))
+normal-form-requires c κs = (omega arith, orthogonal-sound _ _ (sym (c .before .is-orthogonal .ensures) ∙ not-false _ (c .if4 .left)))
 
 columns-of-requires : tie.Need-columns-of-requires
 columns-of-requires c κs = search needs
@@ -132,11 +131,11 @@ refused-requires-5 c κs = search needs
 returns-5 : tie.Need-returns-5
 returns-5 c =
     refused-as _ _ 5 (omega arith)
-    (fifth _ (c .before .before .before .before .before .before .before .before .before .before .before .before .before .before .if1 .left) (c .before .before .before .before .before .before .before .before .before .before .before .before .if2 .left) _ (c .before .before .before .before .before .before .before .before .before .before .before .decode .ensures) (sym (c .before .before .before .before .before .before .before .before .before .before .is-within .ensures) ∙ on _ (c .before .before .before .before .before .before .before .before .before .if3 .left)) (sym (c .before .before .before .before .before .before .before .before .is-orthogonal .ensures) ∙ on _ (c .before .before .before .before .before .before .before .if4 .left)) _ (c .before .before .before .before .before .before .normal-form .ensures) _ (c .before .before .before .columns-of .ensures) (sym (c .before .before .is-even .ensures) ∙ off _ (c .before .if5 .taken))) (c .refused5 .ensures)
+    (fifth _ (c .before .before .before .before .before .before .before .before .before .before .before .before .before .before .if1 .left) (c .before .before .before .before .before .before .before .before .before .before .before .before .if2 .left) _ (c .before .before .before .before .before .before .before .before .before .before .before .decode .ensures) (sym (c .before .before .before .before .before .before .before .before .before .before .is-within .ensures) ∙ not-false _ (c .before .before .before .before .before .before .before .before .before .if3 .left)) (sym (c .before .before .before .before .before .before .before .before .is-orthogonal .ensures) ∙ not-false _ (c .before .before .before .before .before .before .before .if4 .left)) _ (c .before .before .before .before .before .before .normal-form .ensures) _ (c .before .before .before .columns-of .ensures) (sym (c .before .before .is-even .ensures) ∙ not-true _ (c .before .if5 .taken))) (c .refused5 .ensures)
 
 returns-6 : tie.Need-returns-6
 returns-6 c =
-    accepted-as _ (c .before .before .before .before .before .before .before .before .before .before .before .before .before .if1 .left) (c .before .before .before .before .before .before .before .before .before .before .before .if2 .left) _ (c .before .before .before .before .before .before .before .before .before .before .decode .ensures) (sym (c .before .before .before .before .before .before .before .before .before .is-within .ensures) ∙ on _ (c .before .before .before .before .before .before .before .before .if3 .left)) (sym (c .before .before .before .before .before .before .before .is-orthogonal .ensures) ∙ on _ (c .before .before .before .before .before .before .if4 .left)) _ (c .before .before .before .before .before .normal-form .ensures) _ (c .before .before .columns-of .ensures) (sym (c .before .is-even .ensures) ∙ on _ (c .if5 .left))
+    accepted-as _ (c .before .before .before .before .before .before .before .before .before .before .before .before .before .if1 .left) (c .before .before .before .before .before .before .before .before .before .before .before .if2 .left) _ (c .before .before .before .before .before .before .before .before .before .before .decode .ensures) (sym (c .before .before .before .before .before .before .before .before .before .is-within .ensures) ∙ not-false _ (c .before .before .before .before .before .before .before .before .if3 .left)) (sym (c .before .before .before .before .before .before .before .is-orthogonal .ensures) ∙ not-false _ (c .before .before .before .before .before .before .if4 .left)) _ (c .before .before .before .before .before .normal-form .ensures) _ (c .before .before .columns-of .ensures) (sym (c .before .is-even .ensures) ∙ not-false _ (c .if5 .left))
 
 pub cut-file-spec : {M : Type 1} → statement M
 cut-file-spec =

@@ -96,16 +96,16 @@ first-fit-requires c κs = search needs
 
 cut-by-requires : tie.Need-cut-by-requires Inv-loop μ-loop
 cut-by-requires c κs =
-    let l = c .before .before in
+    let l = c .before .before .before in
     let p = l .before .pre in
-    let n = number (l .before .args .k) (l .before .args .m) _ (l .loop .n) (l .loop .numbers) (l .loop .matrix) (c .before .loop-test .taken) (l .loop .inv .1) in
+    let n = number (l .before .args .k) (l .before .args .m) _ (l .loop .n) (l .loop .numbers) (l .loop .matrix) (c .before .before .loop-test .taken) (l .loop .inv .1) in
     let e = c .first-fit .ensures in
-    (omega arith, omega arith, bounded (l .before .args .k) (l .before .args .m) _ (l .loop .n) (l .loop .numbers) (l .loop .matrix) (c .before .loop-test .taken) (l .loop .inv .1) (p .0))
+    (omega arith, omega arith, bounded (l .before .args .k) (l .before .args .m) _ (l .loop .n) (l .loop .numbers) (l .loop .matrix) (c .before .before .loop-test .taken) (l .loop .inv .1) (p .0))
 
 cast-numbers : tie.Need-cast-numbers Inv-loop μ-loop
 cast-numbers c =
-    let l = c .before .before .before in
-    let n = number (l .before .args .k) (l .before .args .m) _ (l .loop .n) (l .loop .numbers) (l .loop .matrix) (c .before .before .loop-test .taken) (l .loop .inv .1) in
+    let l = c .before .before .before .before in
+    let n = number (l .before .args .k) (l .before .args .m) _ (l .loop .n) (l .loop .numbers) (l .loop .matrix) (c .before .before .before .loop-test .taken) (l .loop .inv .1) in
     let e = c .before .first-fit .ensures in
     omega arith
 
@@ -123,10 +123,10 @@ loop-less c = omega arith
 
 loop-again : tie.Need-loop-again Inv-loop μ-loop
 loop-again c =
-    let l = c .before .before .before in
+    let l = c .before .before .before .before in
     let g = c .before .first-fit .ensures in (
       omega arith,
-      turn (l .before .args .k) (l .before .args .m) _ (l .loop .n) (l .loop .numbers) (l .loop .matrix) (c .before .before .loop-test .taken) (l .loop .inv .1) _ _ g
+      turn (l .before .args .k) (l .before .args .m) _ (l .loop .n) (l .loop .numbers) (l .loop .matrix) (c .before .before .before .loop-test .taken) (l .loop .inv .1) _ _ g
           (c .cut-by .ensures ∙ ap (λ x. listed (cut x (entry (l .loop .matrix)))) g) (l .before .pre .0) refl,
     )
 

@@ -1,6 +1,7 @@
 -- The array of masks holds the rows' masks, and the choice looks at no other.
 use mathlib.Core.Path.{ap, _∙_}
 use native.Mathlib.Nat.{zero-add}
+use denote.Ref.{now}
 use borrow.Author.Needs.{needs}
 use Rattle.matrix.specs.Matrix.{entry}
 use Rattle.matrix.specs.Array.{rowMask}
@@ -19,7 +20,7 @@ first-that-fits-requires c κs = search needs
 
 returns : tie.Need-returns
 returns c =
-    let f = rowMask (entry (c .before .before .args .m)) in
+    let f = rowMask (entry (now (c .before .before .args .m))) in
     c .first-that-fits .ensures ∙ ap (λ masks. firstFit (maskAt masks)) (c .before .row-masks .ensures)
     ∙ first-fit-cong _ f (λ r h. getD-tabulate f 0 6 r 0 h ∙ ap f (zero-add r))
 

@@ -14,7 +14,7 @@ use Rattle.matrix.specs.List.{sameList}
 use Rattle.matrix.specs.Matrix.{entry}
 use Rattle.matrix.specs.Operator.{operator, Orthogonal}
 use Rattle.matrix.specs.Array.{leastForm}
-use Rattle.matrix.specs.Laws.Test.{true-T, off, on}
+use Rattle.matrix.specs.Laws.Test.{true-T}
 use Rattle.matrix.specs.Laws.Array.{least-form}
 use Rattle.clifford.specs.Columns.{columnBytes}
 use Rattle.reduction.specs.declared.Normal.{Normal}
@@ -24,6 +24,7 @@ use Rattle.reduction.specs.Laws.NormalForm.{cutting}
 use Rattle.gate.specs.declared.Read.{Read}
 use Rattle.sheet.specs.Promise.{CutAgain}
 use borrow.Author.Needs.{needs}
+use borrow.Author.Tests.{not-true, not-false}
 use Rattle.sheet.proofs.cut_again.Statement.{statement}
 use Rattle.sheet.proofs.cut_again.Tie as tie
 
@@ -42,12 +43,12 @@ module _ (s : List ℕ) (k : ℕ) (m : List ℤ) (o : Orthogonal (operator k (en
 
     another : not t ≡ true → (r : Read) → r .refusal ≡ 13 → CutAgain s k m r
     another n r z =
-        let q = test ∙ off t n in
+        let q = test ∙ not-true t n in
         record { refusal = z ∙ rw q; exponent = λ y. absurd (subst T q (true-T y)); matrix = λ y. absurd (subst T q (true-T y)) }
 
     the-same : not t ≡ false → (l : Least) → l ≡ leastForm k m → CutAgain s k m (record { refusal = 0; exponent = l .exponent; matrix = l .matrix })
     the-same n l z =
-        let q = test ∙ on t n in
+        let q = test ∙ not-false t n in
         record { refusal = rw q; exponent = λ y. ap (λ (x : Least). x .exponent) z; matrix = λ y. ap (λ (x : Least). x .matrix) z }
 
 normal-form-requires : tie.Need-normal-form-requires

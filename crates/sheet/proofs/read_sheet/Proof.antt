@@ -8,13 +8,12 @@ use lib.IntN.{ℤ}
 use lib.ListN.{length, take, length-drop}
 use lib.Seq.{length-take-le}
 use denote.Ref.{now}
-use borrow.Author.Tests.{lt-ltb, le-ltb, eq-eqb}
+use borrow.Author.Tests.{lt-ltb, le-ltb, eq-eqb, not-true, not-false}
 use Rattle.matrix.specs.declared.Least.{Least}
 use Rattle.matrix.specs.List.{sameList}
 use Rattle.matrix.specs.Matrix.{entry, listed}
 use Rattle.matrix.specs.Operator.{operator, Orthogonal}
 use Rattle.matrix.specs.Array.{leastForm}
-use Rattle.matrix.specs.Laws.Test.{off, on}
 use Rattle.matrix.specs.Laws.Operator.{same-orthogonal, same-operator-of}
 use Rattle.matrix.specs.Laws.Array.{entry-listed}
 use Rattle.clifford.specs.Columns.{rowOf, columnsMatrix, areColumnBytes, different, arePermutation, isEven}
@@ -121,7 +120,7 @@ refused-requires-3 c κs = search needs
 
 returns-3 : tie.Need-returns-3
 returns-3 c =
-    refused-as (now (c .before .before .before .before .before .before .args .bytes)) _ 11 (omega arith) (no-number _ (c .before .before .before .before .if1 .left) (c .before .before .before .if2 .left) (sym (c .before .before .are-numbers .ensures) ∙ off _ (c .before .if3 .taken))) (c .refused3 .ensures)
+    refused-as (now (c .before .before .before .before .before .before .args .bytes)) _ 11 (omega arith) (no-number _ (c .before .before .before .before .if1 .left) (c .before .before .before .if2 .left) (sym (c .before .before .are-numbers .ensures) ∙ not-true _ (c .before .if3 .taken))) (c .refused3 .ensures)
 
 columns-from-requires : tie.Need-columns-from-requires
 columns-from-requires c κs = search needs
@@ -134,7 +133,7 @@ refused-requires-4 c κs = search needs
 
 returns-4 : tie.Need-returns-4
 returns-4 c =
-    refused-as (now (c .before .before .before .before .before .before .before .before .before .args .bytes)) _ 11 (omega arith) (no-column _ (c .before .before .before .before .before .before .before .if1 .left) (c .before .before .before .before .before .before .if2 .left) (sym (c .before .before .before .before .before .are-numbers .ensures) ∙ on _ (c .before .before .before .before .if3 .left)) _ (c .before .before .before .columns-from .ensures) (sym (c .before .before .are-column-bytes .ensures) ∙ off _ (c .before .if4 .taken))) (c .refused4 .ensures)
+    refused-as (now (c .before .before .before .before .before .before .before .before .before .args .bytes)) _ 11 (omega arith) (no-column _ (c .before .before .before .before .before .before .before .if1 .left) (c .before .before .before .before .before .before .if2 .left) (sym (c .before .before .before .before .before .are-numbers .ensures) ∙ not-false _ (c .before .before .before .before .if3 .left)) _ (c .before .before .before .columns-from .ensures) (sym (c .before .before .are-column-bytes .ensures) ∙ not-true _ (c .before .if4 .taken))) (c .refused4 .ensures)
 
 rows-differ-requires : tie.Need-rows-differ-requires
 rows-differ-requires c κs = search needs
@@ -144,7 +143,7 @@ refused-requires-5 c κs = search needs
 
 returns-5 : tie.Need-returns-5
 returns-5 c =
-    refused-as (now (c .before .before .before .before .before .before .before .before .before .before .before .args .bytes)) _ 12 (omega arith) (no-permutation _ (c .before .before .before .before .before .before .before .before .before .if1 .left) (c .before .before .before .before .before .before .before .before .if2 .left) (sym (c .before .before .before .before .before .before .before .are-numbers .ensures) ∙ on _ (c .before .before .before .before .before .before .if3 .left)) _ (c .before .before .before .before .before .columns-from .ensures) (sym (c .before .before .before .before .are-column-bytes .ensures) ∙ on _ (c .before .before .before .if4 .left)) (sym (c .before .before .rows-differ .ensures) ∙ off _ (c .before .if5 .taken))) (c .refused5 .ensures)
+    refused-as (now (c .before .before .before .before .before .before .before .before .before .before .before .args .bytes)) _ 12 (omega arith) (no-permutation _ (c .before .before .before .before .before .before .before .before .before .if1 .left) (c .before .before .before .before .before .before .before .before .if2 .left) (sym (c .before .before .before .before .before .before .before .are-numbers .ensures) ∙ not-false _ (c .before .before .before .before .before .before .if3 .left)) _ (c .before .before .before .before .before .columns-from .ensures) (sym (c .before .before .before .before .are-column-bytes .ensures) ∙ not-false _ (c .before .before .before .if4 .left)) (sym (c .before .before .rows-differ .ensures) ∙ not-true _ (c .before .if5 .taken))) (c .refused5 .ensures)
 
 is-even-requires : tie.Need-is-even-requires
 is-even-requires c κs = search needs
@@ -154,22 +153,22 @@ refused-requires-6 c κs = search needs
 
 returns-6 : tie.Need-returns-6
 returns-6 c =
-    refused-as (now (c .before .before .before .before .before .before .before .before .before .before .before .before .before .args .bytes)) _ 12 (omega arith) (odd _ (c .before .before .before .before .before .before .before .before .before .before .before .if1 .left) (c .before .before .before .before .before .before .before .before .before .before .if2 .left) (sym (c .before .before .before .before .before .before .before .before .before .are-numbers .ensures) ∙ on _ (c .before .before .before .before .before .before .before .before .if3 .left)) _ (c .before .before .before .before .before .before .before .columns-from .ensures) (sym (c .before .before .before .before .before .before .are-column-bytes .ensures) ∙ on _ (c .before .before .before .before .before .if4 .left)) (sym (c .before .before .before .before .rows-differ .ensures) ∙ on _ (c .before .before .before .if5 .left)) (sym (c .before .before .is-even .ensures) ∙ off _ (c .before .if6 .taken))) (c .refused6 .ensures)
+    refused-as (now (c .before .before .before .before .before .before .before .before .before .before .before .before .before .args .bytes)) _ 12 (omega arith) (odd _ (c .before .before .before .before .before .before .before .before .before .before .before .if1 .left) (c .before .before .before .before .before .before .before .before .before .before .if2 .left) (sym (c .before .before .before .before .before .before .before .before .before .are-numbers .ensures) ∙ not-false _ (c .before .before .before .before .before .before .before .before .if3 .left)) _ (c .before .before .before .before .before .before .before .columns-from .ensures) (sym (c .before .before .before .before .before .before .are-column-bytes .ensures) ∙ not-false _ (c .before .before .before .before .before .if4 .left)) (sym (c .before .before .before .before .rows-differ .ensures) ∙ not-false _ (c .before .before .before .if5 .left)) (sym (c .before .before .is-even .ensures) ∙ not-true _ (c .before .if6 .taken))) (c .refused6 .ensures)
 
 multiplied-requires : tie.Need-multiplied-requires
 multiplied-requires c κs =
-    (omega arith, omega arith, (sym (c .before .before .before .before .before .before .before .before .are-numbers .ensures) ∙ on _ (c .before .before .before .before .before .before .before .if3 .left)), permutation (now (c .before .before .before .before .before .before .before .before .before .before .before .before .args .bytes)) (c .before .before .before .before .before .before .before .before .before .before .if1 .left) (c .before .before .before .before .before .before .before .before .before .if2 .left) (sym (c .before .before .before .before .before .before .before .before .are-numbers .ensures) ∙ on _ (c .before .before .before .before .before .before .before .if3 .left)) _ (c .before .before .before .before .before .before .columns-from .ensures) (sym (c .before .before .before .before .before .are-column-bytes .ensures) ∙ on _ (c .before .before .before .before .if4 .left)) ∙ (sym (c .before .before .before .rows-differ .ensures) ∙ on _ (c .before .before .if5 .left)))
+    (omega arith, omega arith, (sym (c .before .before .before .before .before .before .before .before .are-numbers .ensures) ∙ not-false _ (c .before .before .before .before .before .before .before .if3 .left)), permutation (now (c .before .before .before .before .before .before .before .before .before .before .before .before .args .bytes)) (c .before .before .before .before .before .before .before .before .before .before .if1 .left) (c .before .before .before .before .before .before .before .before .before .if2 .left) (sym (c .before .before .before .before .before .before .before .before .are-numbers .ensures) ∙ not-false _ (c .before .before .before .before .before .before .before .if3 .left)) _ (c .before .before .before .before .before .before .columns-from .ensures) (sym (c .before .before .before .before .before .are-column-bytes .ensures) ∙ not-false _ (c .before .before .before .before .if4 .left)) ∙ (sym (c .before .before .before .rows-differ .ensures) ∙ not-false _ (c .before .before .if5 .left)))
 
 cast-cut-again : tie.Need-cast-cut-again
 cast-cut-again c = search needs
 
 cut-again-requires : tie.Need-cut-again-requires
 cut-again-requires c κs =
-    (omega arith, orthogonal (now (c .before .before .before .before .before .before .before .before .before .before .before .before .before .args .bytes)) (c .before .before .before .before .before .before .before .before .before .before .before .if1 .left) (c .before .before .before .before .before .before .before .before .before .before .if2 .left) (sym (c .before .before .before .before .before .before .before .before .before .are-numbers .ensures) ∙ on _ (c .before .before .before .before .before .before .before .before .if3 .left)) _ (c .before .before .before .before .before .before .before .columns-from .ensures) (sym (c .before .before .before .before .before .before .are-column-bytes .ensures) ∙ on _ (c .before .before .before .before .before .if4 .left)) (sym (c .before .before .before .before .rows-differ .ensures) ∙ on _ (c .before .before .before .if5 .left)) _ (c .multiplied .ensures))
+    (omega arith, orthogonal (now (c .before .before .before .before .before .before .before .before .before .before .before .before .before .args .bytes)) (c .before .before .before .before .before .before .before .before .before .before .before .if1 .left) (c .before .before .before .before .before .before .before .before .before .before .if2 .left) (sym (c .before .before .before .before .before .before .before .before .before .are-numbers .ensures) ∙ not-false _ (c .before .before .before .before .before .before .before .before .if3 .left)) _ (c .before .before .before .before .before .before .before .columns-from .ensures) (sym (c .before .before .before .before .before .before .are-column-bytes .ensures) ∙ not-false _ (c .before .before .before .before .before .if4 .left)) (sym (c .before .before .before .before .rows-differ .ensures) ∙ not-false _ (c .before .before .before .if5 .left)) _ (c .multiplied .ensures))
 
 returns-7 : tie.Need-returns-7
 returns-7 c =
-    last (now (c .before .before .before .before .before .before .before .before .before .before .before .before .before .before .args .bytes)) (c .before .before .before .before .before .before .before .before .before .before .before .before .if1 .left) (c .before .before .before .before .before .before .before .before .before .before .before .if2 .left) (sym (c .before .before .before .before .before .before .before .before .before .before .are-numbers .ensures) ∙ on _ (c .before .before .before .before .before .before .before .before .before .if3 .left)) _ (c .before .before .before .before .before .before .before .before .columns-from .ensures) (sym (c .before .before .before .before .before .before .before .are-column-bytes .ensures) ∙ on _ (c .before .before .before .before .before .before .if4 .left)) (sym (c .before .before .before .before .before .rows-differ .ensures) ∙ on _ (c .before .before .before .before .if5 .left)) _ (c .before .multiplied .ensures) (sym (c .before .before .before .is-even .ensures) ∙ on _ (c .before .before .if6 .left)) _ (c .cut-again .ensures)
+    last (now (c .before .before .before .before .before .before .before .before .before .before .before .before .before .before .args .bytes)) (c .before .before .before .before .before .before .before .before .before .before .before .before .if1 .left) (c .before .before .before .before .before .before .before .before .before .before .before .if2 .left) (sym (c .before .before .before .before .before .before .before .before .before .before .are-numbers .ensures) ∙ not-false _ (c .before .before .before .before .before .before .before .before .before .if3 .left)) _ (c .before .before .before .before .before .before .before .before .columns-from .ensures) (sym (c .before .before .before .before .before .before .before .are-column-bytes .ensures) ∙ not-false _ (c .before .before .before .before .before .before .if4 .left)) (sym (c .before .before .before .before .before .rows-differ .ensures) ∙ not-false _ (c .before .before .before .before .if5 .left)) _ (c .before .multiplied .ensures) (sym (c .before .before .before .is-even .ensures) ∙ not-false _ (c .before .before .if6 .left)) _ (c .cut-again .ensures)
 
 pub read-sheet-spec : {M : Type 1} → statement M
 read-sheet-spec =
