@@ -6,10 +6,10 @@ use word::Gate;
 use word::Letter;
 ghost use mathlib.Core.Path.{_≡_};
 ghost use mathlib.Core.List.{[]};
-ghost use lib.ListN.{length, take};
+ghost use lib.ListN.{length, getD, take};
 ghost use mathlib.Core.Bool.{true};
-ghost use Prim.Native.Nat.{_+_, _*_, _^_, _≤_, _<_};
-ghost use Rattle.matrix.specs.Matrix.{δ, entry, listed, product};
+ghost use Prim.Native.Nat.{ℕ, _+_, _*_, _^_, _≤_, _<_};
+ghost use Rattle.matrix.specs.Matrix.{δ, entry, listed, product, replaced};
 ghost use Rattle.matrix.specs.Operator.{operator, Orthogonal};
 ghost use Rattle.matrix.specs.Array.{Bounded};
 ghost use Rattle.clifford.specs.Columns.{columnsMatrix, isColumnByte, areColumnBytes, arePermutation};
@@ -55,6 +55,18 @@ fn pair_entry(m: &[i64; 36], r: usize, c: usize, p: usize) -> i64
     m[r * 6 + c] - m[r * 6 + p]
 }
 
+// Row r of the product with a generator, into `out`.
+fn pair_row(m: &[i64; 36], r: usize, partners: [usize; 6], out: &mut [i64; 36])
+    requires { ⌜ (r < 6) × ((c : ℕ) → c < 6 → getD partners c 0 < 6) × Bounded (2 ^ 30) (entry (now m)) × (length (now out) ≡ 36) ⌝ }
+    ensures { λ x. ⌜ now (out .exit) ≡ listed (replaced r (λ c. pairEntry (entry (now (m .entry))) r c (getD partners c 0)) (entry (now (out .entry)))) ⌝ }
+{
+    let mut c = 0usize;
+    while c < 6 {
+        out[r * 6 + c] = pair_entry(m, r, c, partners[c]);
+        c += 1;
+    }
+}
+
 // The product with generator g on the right.
 pub fn times_generator(m: [i64; 36], g: usize) -> [i64; 36]
     requires { ⌜ (1 ≤ g) × (g ≤ 15) × Bounded (2 ^ 30) (entry m) ⌝ }
@@ -62,11 +74,10 @@ pub fn times_generator(m: [i64; 36], g: usize) -> [i64; 36]
 {
     let partners = partners_of(g);
     let mut out = [0i64; 36];
-    let mut n = 0usize;
-    while n < 36 {
-        let c = n % 6;
-        out[n] = pair_entry(&m, n / 6, c, partners[c]);
-        n += 1;
+    let mut r = 0usize;
+    while r < 6 {
+        pair_row(&m, r, partners, &mut out);
+        r += 1;
     }
     out
 }
@@ -83,16 +94,28 @@ fn signed_entry(m: &[i64; 36], r: usize, b: u8) -> i64
     m[r * 6 + row]
 }
 
+// Row r of the product with a Clifford, into `out`.
+fn signed_row(m: &[i64; 36], r: usize, columns: [u8; 6], out: &mut [i64; 36])
+    requires { ⌜ (r < 6) × (arePermutation columns ≡ true) × Bounded (2 ^ 30) (entry (now m)) × (length (now out) ≡ 36) ⌝ }
+    ensures { λ x. ⌜ now (out .exit) ≡ listed (replaced r (λ c. signedEntry (entry (now (m .entry))) r (getD columns c 0)) (entry (now (out .entry)))) ⌝ }
+{
+    let mut c = 0usize;
+    while c < 6 {
+        out[r * 6 + c] = signed_entry(m, r, columns[c]);
+        c += 1;
+    }
+}
+
 // The product with the Clifford of these columns on the right.
 pub fn times_columns(m: [i64; 36], columns: [u8; 6]) -> [i64; 36]
     requires { ⌜ (arePermutation columns ≡ true) × Bounded (2 ^ 30) (entry m) ⌝ }
     ensures { λ r. ⌜ r ≡ listed (product 6 (entry m) (columnsMatrix columns)) ⌝ }
 {
     let mut out = [0i64; 36];
-    let mut n = 0usize;
-    while n < 36 {
-        out[n] = signed_entry(&m, n / 6, columns[n % 6]);
-        n += 1;
+    let mut r = 0usize;
+    while r < 6 {
+        signed_row(&m, r, columns, &mut out);
+        r += 1;
     }
     out
 }

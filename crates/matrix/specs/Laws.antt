@@ -10,3 +10,4 @@ pub mod Operator
 pub mod Range
 pub mod Machine
 pub mod Array
+pub mod Rows

@@ -4,6 +4,7 @@
 ghost use mathlib.Core.Path.{_≡_};
 ghost use Prim.Native.Nat.{_<_, _≤_, _^_};
 ghost use lib.IntN.{pos};
+ghost use lib.ListN.{length};
 ghost use Rattle.matrix.specs.Integer.{parity};
 ghost use Rattle.matrix.specs.Matrix.{entry, listed, rowProduct};
 ghost use Rattle.matrix.specs.Array.{Bounded, orthogonalAt, isOrthogonal, isWithin, rowMask, rowWeight, allEven, halved, halfSums, leastForm};
@@ -162,18 +163,16 @@ pub fn least_form(k: u8, m: [i64; 36]) -> Least
 }
 
 // Rows i and j replaced by half of their sum and half of their difference, row j less row i.
-pub fn half_sums(m: [i64; 36], i: usize, j: usize) -> [i64; 36]
-    requires { ⌜ (i < j) × (j < 6) × Bounded (2 ^ 30) (entry m) ⌝ }
-    ensures { λ r. ⌜ r ≡ listed (halfSums i j (entry m)) ⌝ }
+pub fn half_sums(m: &mut [i64; 36], i: usize, j: usize)
+    requires { ⌜ (i < j) × (j < 6) × (length (now m) ≡ 36) × Bounded (2 ^ 30) (entry (now m)) ⌝ }
+    ensures { λ r. ⌜ now (m .exit) ≡ listed (halfSums i j (entry (now (m .entry)))) ⌝ }
 {
-    let mut out = m;
     let mut c = 0usize;
     while c < 6 {
         let x = m[i * 6 + c];
         let y = m[j * 6 + c];
-        out[i * 6 + c] = (x + y) / 2;
-        out[j * 6 + c] = (y - x) / 2;
+        m[i * 6 + c] = (x + y) / 2;
+        m[j * 6 + c] = (y - x) / 2;
         c += 1;
     }
-    out
 }

@@ -3,7 +3,7 @@
 ghost use mathlib.Core.Path.{_≡_};
 ghost use mathlib.Core.List.{_++_};
 ghost use Prim.Native.Nat.{_+_, _≤_, _<_, _^_};
-ghost use lib.ListN.{getD, take};
+ghost use lib.ListN.{length, getD, take};
 ghost use Rattle.matrix.specs.Matrix.{entry, listed};
 ghost use Rattle.matrix.specs.Operator.{operator, Orthogonal, Reduced};
 ghost use Rattle.matrix.specs.Array.{Bounded, halfSums};
@@ -22,11 +22,13 @@ pub struct Normal {
 }
 
 // The rows of pair p of generator g replaced by half of their sum and half of their difference.
-fn cut_pair(m: [i64; 36], g: usize, p: usize) -> [i64; 36]
-    requires { ⌜ (1 ≤ g) × (g ≤ 15) × (p < 3) × Bounded (2 ^ 30) (entry m) ⌝ }
-    ensures { λ r. ⌜ r ≡ listed (halfSums (low g p) (high g p) (entry m)) ⌝ }
+fn cut_pair(m: &mut [i64; 36], g: usize, p: usize)
+    requires { ⌜ (1 ≤ g) × (g ≤ 15) × (p < 3) × (length (now m) ≡ 36) × Bounded (2 ^ 30) (entry (now m)) ⌝ }
+    ensures { λ r. ⌜ now (m .exit) ≡ listed (halfSums (low g p) (high g p) (entry (now (m .entry)))) ⌝ }
 {
-    matrix::half_sums(m, residue::low_row(g, p), residue::high_row(g, p))
+    let i = residue::low_row(g, p);
+    let j = residue::high_row(g, p);
+    matrix::half_sums(m, i, j);
 }
 
 // Generator g's inverse on the left.
@@ -34,7 +36,11 @@ pub fn cut_by(m: [i64; 36], g: usize) -> [i64; 36]
     requires { ⌜ (1 ≤ g) × (g ≤ 15) × Bounded (2 ^ 30) (entry m) ⌝ }
     ensures { λ r. ⌜ r ≡ listed (cut g (entry m)) ⌝ }
 {
-    cut_pair(cut_pair(cut_pair(m, g, 2), g, 1), g, 0)
+    let mut out = m;
+    cut_pair(&mut out, g, 2);
+    cut_pair(&mut out, g, 1);
+    cut_pair(&mut out, g, 0);
+    out
 }
 
 // The cutting of a reduced orthogonal operator, one generator a turn.

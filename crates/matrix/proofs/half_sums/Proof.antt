@@ -5,6 +5,7 @@ use Prim.Native.Nat.{ℕ, _+_, _*_, _-_, _^_, _≤_, _<_}
 use native.Mathlib.Decide.{ℕ-discrete}
 use native.Mathlib.Omega.{arith}
 use borrow.Author.Needs.{needs}
+use denote.Ref.{now}
 use lib.Dec.{lit<}
 use lib.IntN.{ℤ, _+ℤ_, _-ℤ_}
 use lib.ListN.{length, set, length-set}
@@ -54,25 +55,25 @@ module _ (i j : ℕ) (m : List ℤ) (ij : i < j) (hj : j < 6) (c : ℕ) (hc : c 
         ]
       ]
 
--- the sum and the difference of a turn, and their halves
-module _ (m : List ℤ) (i j c : ℕ) (ij : i < j) (hj : j < 6) (hc : c < 6) (b : Bounded (2 ^ 30) (entry m)) where
-  at : (r : ℕ) → r < 6 → Sized (2 ^ 30) (toZ w64 (ofZ w64 (entry m r c))) (entry m r c)
-  at r hr = stored (entry m r c) (b .size r c hr hc) (lit< tt)
+-- the sum and the difference of a turn: column c is still as it was
+module _ (m out : List ℤ) (i j c : ℕ) (ij : i < j) (hj : j < 6) (hc : c < 6) (b : Bounded (2 ^ 30) (entry m)) (d : Done i j m c out) where
+  at : (r : ℕ) → r < 6 → Sized (2 ^ 30) (toZ w64 (ofZ w64 (entry out r c))) (entry m r c)
+  at r hr = rw (d .left r c hr hc (omega arith)) (stored (entry m r c) (b .size r c hr hc) (lit< tt))
 
-  plus : Sized (2 ^ 31) (toZ w64 (ofZ w64 (entry m i c)) +ℤ toZ w64 (ofZ w64 (entry m j c))) (entry m i c +ℤ entry m j c)
+  plus : Sized (2 ^ 31) (toZ w64 (ofZ w64 (entry out i c)) +ℤ toZ w64 (ofZ w64 (entry out j c))) (entry m i c +ℤ entry m j c)
   plus = add (at i (omega arith)) (at j hj)
 
-  minus : Sized (2 ^ 31) (toZ w64 (ofZ w64 (entry m j c)) -ℤ toZ w64 (ofZ w64 (entry m i c))) (entry m j c -ℤ entry m i c)
+  minus : Sized (2 ^ 31) (toZ w64 (ofZ w64 (entry out j c)) -ℤ toZ w64 (ofZ w64 (entry out i c))) (entry m j c -ℤ entry m i c)
   minus = sub (at j hj) (at i (omega arith))
 
 abbrev Inv-loop : tie.InvT-loop
-Inv-loop i j m out₀ c₀ out c = (c ≤ 6) × Done i j m c out
+Inv-loop m₀ i j c₀ m c = (c ≤ 6) × Done i j m₀ c m
 
 abbrev μ-loop : tie.MeasureT-loop
-μ-loop i j m out₀ c₀ out c = 6 - c
+μ-loop m₀ i j c₀ m c = 6 - c
 
 loop-holds : tie.Need-loop-holds Inv-loop μ-loop
-loop-holds c = (search needs, record { long = c .good .0 .1 .0 .1; done = λ r s hr hs. absurd (omega arith); left = λ r s hr hs l. refl })
+loop-holds c = (search needs, record { long = c .pre .2; done = λ r s hr hs. absurd (omega arith); left = λ r s hr hs l. refl })
 
 mul-x : tie.Need-mul-x Inv-loop μ-loop
 mul-x c = search needs
@@ -83,8 +84,8 @@ add-x c = search needs
 mul-x-2 : tie.Need-mul-x-2 Inv-loop μ-loop
 mul-x-2 c = search needs
 
-array-copy-out-x : tie.Need-array-copy-out-x Inv-loop μ-loop
-array-copy-out-x c = search needs
+element-copy-out-x : tie.Need-element-copy-out-x Inv-loop μ-loop
+element-copy-out-x c = search needs
 
 mul-y : tie.Need-mul-y Inv-loop μ-loop
 mul-y c = search needs
@@ -95,64 +96,64 @@ add-y c = search needs
 mul-y-2 : tie.Need-mul-y-2 Inv-loop μ-loop
 mul-y-2 c = search needs
 
-array-copy-out-y : tie.Need-array-copy-out-y Inv-loop μ-loop
-array-copy-out-y c = search needs
+element-copy-out-y : tie.Need-element-copy-out-y Inv-loop μ-loop
+element-copy-out-y c = search needs
 
-add-out : tie.Need-add-out Inv-loop μ-loop
-add-out c =
+add-m : tie.Need-add-m Inv-loop μ-loop
+add-m c =
     let l = c .before .before .before in
     let a = l .before .args in
     let p = l .before .pre in
     let t = c .before .before .loop-test .taken in
-    fits (plus (a .t1) (a .i) (a .j) (l .loop .c) (p .0) (p .1) t (p .2)) (lit< tt)
+    fits (plus (now (a .m)) (l .loop .m) (a .i) (a .j) (l .loop .c) (p .0) (p .1) t (p .3) (l .loop .inv .1)) (lit< tt)
 
-div-out : tie.Need-div-out Inv-loop μ-loop
-div-out c =
+div-m : tie.Need-div-m Inv-loop μ-loop
+div-m c =
     let l = c .before .before .before in
     let a = l .before .args in
     let p = l .before .pre in
     let t = c .before .before .loop-test .taken in
-    (lit< tt, fits (halve (again (plus (a .t1) (a .i) (a .j) (l .loop .c) (p .0) (p .1) t (p .2)) (lit< tt))) (lit< tt))
+    (lit< tt, fits (halve (again (plus (now (a .m)) (l .loop .m) (a .i) (a .j) (l .loop .c) (p .0) (p .1) t (p .3) (l .loop .inv .1)) (lit< tt))) (lit< tt))
 
-mul-out : tie.Need-mul-out Inv-loop μ-loop
-mul-out c = search needs
+mul-m : tie.Need-mul-m Inv-loop μ-loop
+mul-m c = search needs
 
-add-out-2 : tie.Need-add-out-2 Inv-loop μ-loop
-add-out-2 c = search needs
+add-m-2 : tie.Need-add-m-2 Inv-loop μ-loop
+add-m-2 c = search needs
 
-mul-out-2 : tie.Need-mul-out-2 Inv-loop μ-loop
-mul-out-2 c = search needs
+mul-m-2 : tie.Need-mul-m-2 Inv-loop μ-loop
+mul-m-2 c = search needs
 
-array-set-from-out : tie.Need-array-set-from-out Inv-loop μ-loop
-array-set-from-out c = search needs
+element-set-from-m : tie.Need-element-set-from-m Inv-loop μ-loop
+element-set-from-m c = search needs
 
-sub-out : tie.Need-sub-out Inv-loop μ-loop
-sub-out c =
+sub-m : tie.Need-sub-m Inv-loop μ-loop
+sub-m c =
     let l = c .before .before .before in
     let a = l .before .args in
     let p = l .before .pre in
     let t = c .before .before .loop-test .taken in
-    fits (minus (a .t1) (a .i) (a .j) (l .loop .c) (p .0) (p .1) t (p .2)) (lit< tt)
+    fits (minus (now (a .m)) (l .loop .m) (a .i) (a .j) (l .loop .c) (p .0) (p .1) t (p .3) (l .loop .inv .1)) (lit< tt)
 
-div-out-2 : tie.Need-div-out-2 Inv-loop μ-loop
-div-out-2 c =
+div-m-2 : tie.Need-div-m-2 Inv-loop μ-loop
+div-m-2 c =
     let l = c .before .before .before in
     let a = l .before .args in
     let p = l .before .pre in
     let t = c .before .before .loop-test .taken in
-    (lit< tt, fits (halve (again (minus (a .t1) (a .i) (a .j) (l .loop .c) (p .0) (p .1) t (p .2)) (lit< tt))) (lit< tt))
+    (lit< tt, fits (halve (again (minus (now (a .m)) (l .loop .m) (a .i) (a .j) (l .loop .c) (p .0) (p .1) t (p .3) (l .loop .inv .1)) (lit< tt))) (lit< tt))
 
-mul-out-3 : tie.Need-mul-out-3 Inv-loop μ-loop
-mul-out-3 c = search needs
+mul-t9 : tie.Need-mul-t9 Inv-loop μ-loop
+mul-t9 c = search needs
 
-add-out-3 : tie.Need-add-out-3 Inv-loop μ-loop
-add-out-3 c = search needs
+add-t8 : tie.Need-add-t8 Inv-loop μ-loop
+add-t8 c = search needs
 
-mul-out-4 : tie.Need-mul-out-4 Inv-loop μ-loop
-mul-out-4 c = search needs
+mul-t10 : tie.Need-mul-t10 Inv-loop μ-loop
+mul-t10 c = search needs
 
-array-set-from-out-2 : tie.Need-array-set-from-out-2 Inv-loop μ-loop
-array-set-from-out-2 c = search needs
+element-set-from-m-2 : tie.Need-element-set-from-m-2 Inv-loop μ-loop
+element-set-from-m-2 c = search needs
 
 add-c : tie.Need-add-c Inv-loop μ-loop
 add-c c = search needs
@@ -167,15 +168,15 @@ loop-again c =
     let p = l .before .pre in
     let t = c .before .before .loop-test .taken in (
       search needs,
-      turn (a .i) (a .j) (a .t1) (p .0) (p .1) (l .loop .c) t (l .loop .out) (l .loop .inv .1) _ _
-          (again (halve (again (plus (a .t1) (a .i) (a .j) (l .loop .c) (p .0) (p .1) t (p .2)) (lit< tt))) (lit< tt) .is)
-          (again (halve (again (minus (a .t1) (a .i) (a .j) (l .loop .c) (p .0) (p .1) t (p .2)) (lit< tt))) (lit< tt) .is),
+      turn (a .i) (a .j) (now (a .m)) (p .0) (p .1) (l .loop .c) t (l .loop .m) (l .loop .inv .1) _ _
+          (again (halve (again (plus (now (a .m)) (l .loop .m) (a .i) (a .j) (l .loop .c) (p .0) (p .1) t (p .3) (l .loop .inv .1)) (lit< tt))) (lit< tt) .is)
+          (again (halve (again (minus (now (a .m)) (l .loop .m) (a .i) (a .j) (l .loop .c) (p .0) (p .1) t (p .3) (l .loop .inv .1)) (lit< tt))) (lit< tt) .is),
     )
 
 returns : tie.Need-returns Inv-loop μ-loop
 returns c =
     let d = c .before .loop .inv .1 in
-    listed-is (c .before .loop .out) _ (d .long) (λ r s hr hs. d .done r s hr (omega arith))
+    listed-is (c .before .loop .m) _ (d .long) (λ r s hr hs. d .done r s hr (omega arith))
 
 pub half-sums-spec : {M : Type 1} → statement M
 half-sums-spec =
@@ -187,23 +188,23 @@ half-sums-spec =
     mul-x
     add-x
     mul-x-2
-    array-copy-out-x
+    element-copy-out-x
     mul-y
     add-y
     mul-y-2
-    array-copy-out-y
-    add-out
-    div-out
-    mul-out
-    add-out-2
-    mul-out-2
-    array-set-from-out
-    sub-out
-    div-out-2
-    mul-out-3
-    add-out-3
-    mul-out-4
-    array-set-from-out-2
+    element-copy-out-y
+    add-m
+    div-m
+    mul-m
+    add-m-2
+    mul-m-2
+    element-set-from-m
+    sub-m
+    div-m-2
+    mul-t9
+    add-t8
+    mul-t10
+    element-set-from-m-2
     add-c
     loop-less
     loop-again
