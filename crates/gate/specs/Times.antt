@@ -9,12 +9,12 @@ use Rattle.matrix.specs.Matrix.{Matrix}
 use Rattle.clifford.specs.Columns.{rowOf, isMinus}
 use Rattle.residue.specs.Generator.{low, high}
 
--- the partners of the columns, with those of pair p of generator g; columns are counted from 0
+-- the partners of the columns, with i and j as each other's; columns are counted from 0
 abbrev pub paired : ℕ → ℕ → List ℕ → List ℕ
-paired g p ps = set (set ps (low g p) (high g p)) (high g p) (low g p)
+paired i j ps = set (set ps i j) j i
 
 unfoldable pub partners : ℕ → List ℕ
-partners g = paired g 2 (paired g 1 (paired g 0 (replicate 6 0)))
+partners g = paired (low g 2) (high g 2) (paired (low g 1) (high g 1) (paired (low g 0) (high g 0) (replicate 6 0)))
 
 -- the other of the pair in which generator g has c
 abbrev pub partner : ℕ → ℕ → ℕ

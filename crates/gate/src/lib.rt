@@ -23,13 +23,11 @@ ghost use Rattle.gate.specs.List.{leftOf, rightOf, stretch, gateList};
 ghost use Rattle.gate.specs.Reading.{multiplied, readByte, ReadAs, readFrom, reading, operatorAnswer, operatorBuffer};
 ghost use Rattle.gate.specs.Times.{paired, partners, pairEntry, signedEntry};
 
-// The partners of the columns, with those of pair p of generator g.
-fn paired_by(partners: [usize; 6], g: usize, p: usize) -> [usize; 6]
-    requires { ⌜ (1 ≤ g) × (g ≤ 15) × (p < 3) ⌝ }
-    ensures { λ r. ⌜ r ≡ paired g p partners ⌝ }
+// The partners of the columns, with i and j as each other's.
+fn paired_by(partners: [usize; 6], i: usize, j: usize) -> [usize; 6]
+    requires { ⌜ (i < 6) × (j < 6) ⌝ }
+    ensures { λ r. ⌜ r ≡ paired i j partners ⌝ }
 {
-    let i = residue::low_row(g, p);
-    let j = residue::high_row(g, p);
     let mut out = partners;
     out[i] = j;
     out[j] = i;
@@ -41,7 +39,10 @@ fn partners_of(g: usize) -> [usize; 6]
     requires { ⌜ (1 ≤ g) × (g ≤ 15) ⌝ }
     ensures { λ r. ⌜ r ≡ partners g ⌝ }
 {
-    paired_by(paired_by(paired_by([0; 6], g, 0), g, 1), g, 2)
+    let pairs = residue::pairs_of(g);
+    let first = paired_by([0; 6], pairs[0] as usize, pairs[1] as usize);
+    let second = paired_by(first, pairs[2] as usize, pairs[3] as usize);
+    paired_by(second, pairs[4] as usize, pairs[5] as usize)
 }
 
 // An entry of the product with a generator, where p is the partner of c.

@@ -3,11 +3,10 @@
 ghost use mathlib.Core.Path.{_≡_};
 ghost use mathlib.Core.List.{_++_};
 ghost use Prim.Native.Nat.{_+_, _≤_, _<_, _^_};
-ghost use lib.ListN.{length, getD, take};
+ghost use lib.ListN.{getD, take};
 ghost use Rattle.matrix.specs.Matrix.{entry, listed};
 ghost use Rattle.matrix.specs.Operator.{operator, Orthogonal, Reduced};
-ghost use Rattle.matrix.specs.Array.{Bounded, halfSums};
-ghost use Rattle.residue.specs.Generator.{low, high};
+ghost use Rattle.matrix.specs.Array.{Bounded};
 ghost use Rattle.reduction.specs.Reduction.{cut};
 ghost use Rattle.reduction.specs.Result.{Whole, WholeOf};
 
@@ -21,25 +20,16 @@ pub struct Normal {
     pub matrix: [i64; 36],
 }
 
-// The rows of pair p of generator g replaced by half of their sum and half of their difference.
-fn cut_pair(m: &mut [i64; 36], g: usize, p: usize)
-    requires { ⌜ (1 ≤ g) × (g ≤ 15) × (p < 3) × (length (now m) ≡ 36) × Bounded (2 ^ 30) (entry (now m)) ⌝ }
-    ensures { λ r. ⌜ now (m .exit) ≡ listed (halfSums (low g p) (high g p) (entry (now (m .entry)))) ⌝ }
-{
-    let i = residue::low_row(g, p);
-    let j = residue::high_row(g, p);
-    matrix::half_sums(m, i, j);
-}
-
 // Generator g's inverse on the left.
 pub fn cut_by(m: [i64; 36], g: usize) -> [i64; 36]
     requires { ⌜ (1 ≤ g) × (g ≤ 15) × Bounded (2 ^ 30) (entry m) ⌝ }
     ensures { λ r. ⌜ r ≡ listed (cut g (entry m)) ⌝ }
 {
+    let pairs = residue::pairs_of(g);
     let mut out = m;
-    cut_pair(&mut out, g, 2);
-    cut_pair(&mut out, g, 1);
-    cut_pair(&mut out, g, 0);
+    matrix::half_sums(&mut out, pairs[4] as usize, pairs[5] as usize);
+    matrix::half_sums(&mut out, pairs[2] as usize, pairs[3] as usize);
+    matrix::half_sums(&mut out, pairs[0] as usize, pairs[1] as usize);
     out
 }
 

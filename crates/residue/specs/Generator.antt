@@ -1,6 +1,6 @@
 -- The fifteen generators (document 01), and which of them a matrix's odd entries call for ("The rule of cutting").
 use mathlib.Core.Bool.{Bool, cond}
-use mathlib.Core.List.{List, [], _∷_}
+use mathlib.Core.List.{List, [], _∷_, map}
 use Prim.Native.Nat.{ℕ, _+_, _*_, _-_}
 use lib.Dec.{eqb}
 use lib.IntN.{pos, negsuc, _+ℤ_, _-ℤ_, _*ℤ_}
@@ -31,6 +31,10 @@ table =
 -- number n (0 to 5) of generator g's six rows
 unfoldable pub place : ℕ → ℕ → ℕ
 place g n = getD (getD table (g - 1) []) n 0
+
+-- generator g's six rows, counted from 0
+abbrev pub pairRows : ℕ → List ℕ
+pairRows g = map (λ x. x - 1) (getD table (g - 1) [])
 
 -- the rows i < j of pair p (0 to 2) of generator g, counted from 0
 abbrev pub low : ℕ → ℕ → ℕ

@@ -1,12 +1,12 @@
 // The fifteen generators, and which of them a matrix's odd entries call for. The contracts cite specs/Generator.antt.
 
 ghost use mathlib.Core.Path.{_≡_};
-ghost use Prim.Native.Nat.{_<_, _≤_};
+ghost use Prim.Native.Nat.{_≤_};
 ghost use Rattle.matrix.specs.Range.{tabulate};
 ghost use Rattle.matrix.specs.Matrix.{entry};
 ghost use Rattle.matrix.specs.Array.{rowMask};
-ghost use Rattle.residue.specs.Generator.{low, high, fits, firstFit};
-ghost use Rattle.residue.specs.Masks.{maskAt};
+ghost use Rattle.residue.specs.Generator.{pairRows, firstFit};
+ghost use Rattle.residue.specs.Masks.{AreRows, maskAt, pairsFit};
 
 // The three pairs of each generator, in the order of their numbers; rows are counted from 0.
 const PAIRS: [[u8; 6]; 15] = [
@@ -27,27 +27,12 @@ const PAIRS: [[u8; 6]; 15] = [
     [0, 5, 1, 4, 2, 3],
 ];
 
-// A number of 8 bits as an index.
-fn wide(x: u8) -> usize
-    ensures { λ r. ⌜ r ≡ x ⌝ }
+// The rows of generator g, pair by pair.
+pub fn pairs_of(g: usize) -> [u8; 6]
+    requires { ⌜ (1 ≤ g) × (g ≤ 15) ⌝ }
+    ensures { λ r. ⌜ r ≡ pairRows g ⌝ }
 {
-    x as usize
-}
-
-// The first row of pair p of generator g.
-pub fn low_row(g: usize, p: usize) -> usize
-    requires { ⌜ (1 ≤ g) × (g ≤ 15) × (p < 3) ⌝ }
-    ensures { λ r. ⌜ r ≡ low g p ⌝ }
-{
-    wide(PAIRS[g - 1][p * 2])
-}
-
-// The second row of pair p of generator g.
-pub fn high_row(g: usize, p: usize) -> usize
-    requires { ⌜ (1 ≤ g) × (g ≤ 15) × (p < 3) ⌝ }
-    ensures { λ r. ⌜ r ≡ high g p ⌝ }
-{
-    wide(PAIRS[g - 1][p * 2 + 1])
+    PAIRS[g - 1]
 }
 
 // The masks of the six rows.
@@ -63,15 +48,15 @@ pub fn row_masks(m: &[i64; 36]) -> [u8; 6]
     masks
 }
 
-// Whether the rows of each of generator g's pairs have equal masks.
-pub fn generator_fits(masks: [u8; 6], g: usize) -> bool
-    requires { ⌜ (1 ≤ g) × (g ≤ 15) ⌝ }
-    ensures { λ r. ⌜ r ≡ fits (maskAt masks) g ⌝ }
+// Whether the rows of each pair have equal masks.
+fn pairs_fit(masks: [u8; 6], pairs: [u8; 6]) -> bool
+    requires { ⌜ AreRows pairs ⌝ }
+    ensures { λ r. ⌜ r ≡ pairsFit masks pairs ⌝ }
 {
     let mut p = 0usize;
     while p < 3 {
-        let i = low_row(g, p);
-        let j = high_row(g, p);
+        let i = pairs[p * 2] as usize;
+        let j = pairs[p * 2 + 1] as usize;
         if masks[i] != masks[j] {
             return false;
         }
@@ -84,9 +69,11 @@ pub fn generator_fits(masks: [u8; 6], g: usize) -> bool
 fn first_that_fits(masks: [u8; 6]) -> usize
     ensures { λ r. ⌜ r ≡ firstFit (maskAt masks) ⌝ }
 {
+    let table = PAIRS;
     let mut g = 1usize;
     while g < 16 {
-        if generator_fits(masks, g) {
+        let pairs = table[g - 1];
+        if pairs_fit(masks, pairs) {
             return g;
         }
         g += 1;

@@ -1,12 +1,13 @@
 -- What a generator does to a matrix.
-use mathlib.Core.Path.{_≡_, refl, subst, _∙_}
+use mathlib.Core.Path.{_≡_, refl, ap, ap₂, fun-ext, subst, _∙_}
 use mathlib.Core.Logic.{_≢_}
 use mathlib.Core.Bool.{Bool, true, not, _&&_, _||_}
-use mathlib.Core.List.{[], _∷_}
-use Prim.Native.Nat.{ℕ, suc, _<_, _≤_}
+use mathlib.Core.List.{List, [], _∷_}
+use Prim.Native.Nat.{ℕ, suc, _+_, _*_, _<_, _≤_}
 use native.Mathlib.Omega.{arith}
 use lib.Dec.{T, eqb, ltb, eqb→eq, eqb-refl, ltb→lt, T-not}
 use lib.IntN.{pos, negsuc, _*ℤ_}
+use lib.ListN.{getD}
 use Rattle.matrix.specs.Range.{sum, everyFrom, every}
 use Rattle.matrix.specs.Integer.{equals}
 use Rattle.matrix.specs.Matrix.{Matrix, Same, δ, replaced, product}
@@ -19,9 +20,10 @@ use Rattle.matrix.specs.Laws.Ring.{var, num, _:*_, ring}
 use Rattle.matrix.specs.Laws.Matrix.{product-cong, product-id-l, same-refl}
 use Rattle.matrix.specs.Laws.Determinant.{combined-product, combined-cong, det-minus-plus}
 use Rattle.matrix.specs.Laws.Array.{everywhere-sound, orthogonal-sound}
-use Rattle.residue.specs.Generator.{table, place, low, high, generator, turnedPair, turned, fits, firstFit}
+use Rattle.residue.specs.Generator.{table, place, pairRows, low, high, generator, turnedPair, turned, fits, firstFit}
 use Rattle.matrix.specs.Laws.Test.{left, right, or-elim, T-true, true-T}
-use Rattle.residue.specs.Laws.Table.{numbered}
+use Rattle.residue.specs.Masks.{AreRows, maskAt, pairsFit}
+use Rattle.residue.specs.Laws.Table.{numbered, row-at}
 
 -- ---- the rows of a pair
 
@@ -35,7 +37,19 @@ all-right : every 15 (λ a. every 3 (pairs-right (suc a)) && every 3 (λ p. ever
 unfolding place table everyFrom
 all-right = refl
 
+-- the six rows, as the code has them
+rows-right : every 15 (λ a. every 6 (λ n. ltb (getD (pairRows (suc a)) n 0) 6)) ≡ true
+unfolding table everyFrom
+rows-right = refl
+
+pub rows-fit : (masks : List ℕ) (g : ℕ) → pairsFit masks (pairRows g) ≡ fits (maskAt masks) g
+unfolding fits
+rows-fit masks g = ap (every 3) (fun-ext λ p. ap₂ (λ i j. eqb (maskAt masks i) (maskAt masks j)) (row-at g (p * 2)) (row-at g (p * 2 + 1)))
+
 module _ (g : ℕ) (l : 1 ≤ g) (u : g ≤ 15) where
+  pub are-rows : AreRows (pairRows g)
+  are-rows n h = ltb→lt _ 6 (true-T (every-sound 6 (λ n. ltb (getD (pairRows g) n 0) 6) (T-true _ (numbered (λ g. every 6 (λ n. ltb (getD (pairRows g) n 0) 6)) 15 rows-right g l u)) n h))
+
   right-of : T (every 3 (pairs-right g) && every 3 (λ p. every 3 (apart g p)))
   right-of = numbered (λ g. every 3 (pairs-right g) && every 3 (λ p. every 3 (apart g p))) 15 all-right g l u
 

@@ -1,6 +1,6 @@
 -- The table's rule: every splitting of the six rows into three pairs stands in it exactly once, in the order in which document 01 prints
 -- them, which is the order of their numbers read from left to right.
-use mathlib.Core.Path.{_≡_, refl, subst, ap, ap₂, _∙_}
+use mathlib.Core.Path.{_≡_, refl, subst, ap₂}
 use mathlib.Core.Bool.{Bool, true, false, not, _&&_, _||_}
 use mathlib.Core.List.{List, [], _∷_, map}
 use Prim.Native.Nat.{ℕ, suc, _-_, _<_, _≤_}
@@ -9,7 +9,7 @@ use lib.Dec.{T, eqb, ltb, eqb→eq, eqb-refl, ltb→lt, lt→ltb}
 use lib.ListN.{getD, List·getD-map}
 use Rattle.matrix.specs.Range.{everyFrom, every, firstFrom}
 use Rattle.matrix.specs.Laws.Range.{every-sound, first-in}
-use Rattle.residue.specs.Generator.{table, place}
+use Rattle.residue.specs.Generator.{table, place, pairRows}
 use Rattle.matrix.specs.Laws.Test.{both, left, right, imp, imp-sound, T-true, true-T}
 
 -- the six rows of generator g, counted from 1
@@ -115,7 +115,10 @@ unique g h l u m v e =
     (T-true _ (numbered (λ g. every 15 (λ b. imp (same (rowsOf g) (rowsOf (suc b))) (eqb g (suc b)))) 15 refl g l u)) h m v)
     (subst (λ x. T (same (rowsOf g) x)) e (same-refl (rowsOf g))))
 
--- the table with rows counted from 0, as the code has it
-pub from-zero : (g n : ℕ) → getD (getD (map (map (λ x. x - 1)) table) (g - 1) []) n 0 ≡ place g n - 1
+-- the rows of a generator, counted from 0, as the code has them
+pub from-zero : (g : ℕ) → getD (map (map (λ x. x - 1)) table) (g - 1) [] ≡ pairRows g
+from-zero g = List·getD-map (map (λ x. x - 1)) table (g - 1) []
+
+pub row-at : (g n : ℕ) → getD (pairRows g) n 0 ≡ place g n - 1
 unfolding place
-from-zero g n = ap (λ l. getD l n 0) (List·getD-map (map (λ x. x - 1)) table (g - 1) []) ∙ List·getD-map (λ x. x - 1) (getD table (g - 1) []) n 0
+row-at g n = List·getD-map (λ x. x - 1) (getD table (g - 1) []) n 0
