@@ -1,0 +1,22 @@
+/* Cuts the operator file on standard input, as the program `cut` does: the count and the sheet, or the refusal. */
+#include <stdio.h>
+
+#include "dimfrets.h"
+
+int main(void)
+{
+    uint8_t file[DIMFRETS_OPERATOR_BYTES + 1];
+    uint8_t sheet[DIMFRETS_MAX_SHEET];
+    size_t length = fread(file, 1, sizeof file, stdin);
+    uint64_t answer = dimfrets_operator_to_sheet(file, length, sheet, sizeof sheet);
+
+    if (dimfrets_is_refused(answer)) {
+        printf("refused %u\n", dimfrets_refusal_number(answer));
+        return 1;
+    }
+    printf("count %u\nsheet", dimfrets_count(answer));
+    for (unsigned n = 0; n < dimfrets_count(answer) + 6; n++)
+        printf(" %u", sheet[n]);
+    printf("\n");
+    return 0;
+}

@@ -1,0 +1,148 @@
+//! Measures the time per call of the library and of the plain implementation, on the same inputs
+//! and in the same run, and prints a table in Markdown.
+
+#![forbid(unsafe_code)]
+
+use std::hint::black_box;
+use std::time::{Duration, Instant};
+
+use samples::Random;
+
+const COUNTS: [u8; 4] = [0, 7, 14, 28];
+const INPUTS: usize = 64;
+const ROUNDS: usize = 15;
+const ROUND_TIME: Duration = Duration::from_millis(15);
+const BUFFER: usize = dimfrets::GATES_BUFFER;
+
+/// One run of a call; the number keeps it from being left out.
+type Run = fn(&[u8], &mut [u8]) -> u64;
+
+/// A call on both implementations, and the maker of its inputs for a count.
+struct Subject {
+    name: &'static str,
+    input: fn(&mut Random, u8) -> Vec<u8>,
+    dimfrets: Run,
+    plain: Run,
+}
+
+const SUBJECTS: [Subject; 5] = [
+    Subject {
+        name: "operator_to_sheet",
+        input: operator_file,
+        dimfrets: |file, out| dimfrets::operator_to_sheet(file, out).unwrap().into(),
+        plain: |file, out| plain::operator_to_sheet(file, out).unwrap().into(),
+    },
+    Subject {
+        name: "operator_to_gates",
+        input: operator_file,
+        dimfrets: |file, out| dimfrets::operator_to_gates(file, out).unwrap().letters as u64,
+        plain: |file, out| plain::operator_to_gates(file, out).unwrap().1 as u64,
+    },
+    Subject {
+        name: "gates_to_operator",
+        input: gate_list,
+        dimfrets: |list, out| dimfrets::gates_to_operator(list, out).unwrap().into(),
+        plain: |list, out| plain::gates_to_operator(list, out).unwrap().into(),
+    },
+    Subject {
+        name: "sheet_to_operator",
+        input: samples::sheet,
+        dimfrets: |sheet, out| dimfrets::sheet_to_operator(sheet, out).unwrap().into(),
+        plain: |sheet, out| plain::sheet_to_operator(sheet, out).unwrap().into(),
+    },
+    Subject {
+        name: "states_to_order",
+        input: order,
+        dimfrets: |order, _| {
+            dimfrets::states_to_order(t(order), p(order))
+                .unwrap()
+                .into()
+        },
+        plain: |order, _| plain::states_to_order(t(order), p(order)).unwrap(),
+    },
+];
+
+fn main() {
+    println!("| call | count | dimfrets ns | plain ns | ratio |");
+    println!("|---|---:|---:|---:|---:|");
+    let mut random = Random::new(6);
+    for subject in &SUBJECTS {
+        for count in COUNTS {
+            subject.print_row(&mut random, count);
+        }
+    }
+}
+
+impl Subject {
+    fn print_row(&self, random: &mut Random, count: u8) {
+        let inputs: Vec<_> = (0..INPUTS).map(|_| (self.input)(random, count)).collect();
+        let [dimfrets, plain] = measure([self.dimfrets, self.plain], &inputs);
+        let (name, ratio) = (self.name, dimfrets / plain);
+        println!("| {name} | {count} | {dimfrets:.1} | {plain:.1} | {ratio:.2} |");
+    }
+}
+
+/// The median time per call, in nanoseconds, of two calls that take turns.
+fn measure(calls: [Run; 2], inputs: &[Vec<u8>]) -> [f64; 2] {
+    let passes = calls.map(|call| passes_in_a_round(call, inputs));
+    let mut rounds = [[0.0; 2]; ROUNDS];
+    for round in &mut rounds {
+        for (side, time) in round.iter_mut().enumerate() {
+            let elapsed = time_passes(calls[side], inputs, passes[side]);
+            *time = elapsed.as_nanos() as f64 / (passes[side] * inputs.len()) as f64;
+        }
+    }
+    [0, 1].map(|side| median(rounds.map(|round| round[side])))
+}
+
+/// How many passes over the inputs fill a round; finding out warms up.
+fn passes_in_a_round(call: Run, inputs: &[Vec<u8>]) -> usize {
+    let mut passes = 1;
+    while time_passes(call, inputs, passes) < ROUND_TIME {
+        passes *= 2;
+    }
+    passes
+}
+
+fn time_passes(call: Run, inputs: &[Vec<u8>], passes: usize) -> Duration {
+    let mut out = vec![0; BUFFER];
+    let start = Instant::now();
+    for _ in 0..passes {
+        for input in inputs {
+            black_box(call(black_box(input), black_box(&mut out)));
+        }
+    }
+    start.elapsed()
+}
+
+fn median(mut times: [f64; ROUNDS]) -> f64 {
+    times.sort_by(f64::total_cmp);
+    times[ROUNDS / 2]
+}
+
+fn operator_file(random: &mut Random, count: u8) -> Vec<u8> {
+    samples::file(&samples::operator(random, count))
+}
+
+/// The gate list that the plain implementation writes for an operator of the count.
+fn gate_list(random: &mut Random, count: u8) -> Vec<u8> {
+    let mut list = vec![0; BUFFER];
+    let written = plain::operator_to_gates(&operator_file(random, count), &mut list);
+    let (_, letters) = written.expect("an accepted operator");
+    list.truncate(letters);
+    list
+}
+
+/// t and p, the spoilage, as eight bytes each.
+fn order(random: &mut Random, count: u8) -> Vec<u8> {
+    let spoilage = random.below(1001) as u64;
+    [u64::from(count).to_le_bytes(), spoilage.to_le_bytes()].concat()
+}
+
+fn t(order: &[u8]) -> u64 {
+    u64::from_le_bytes(*order.first_chunk().expect("eight bytes"))
+}
+
+fn p(order: &[u8]) -> u64 {
+    u64::from_le_bytes(*order.last_chunk().expect("eight bytes"))
+}

@@ -1,0 +1,175 @@
+//! The judge runs one input on both implementations and compares. It ends the program at the first
+//! difference.
+
+use plain::gate::{image, LETTERS_PER_COUNT};
+use plain::operator::{Operator, OPERATOR_BYTES};
+use plain::sheet::MAX_SHEET;
+use samples::Random;
+
+use crate::call::{Answer, Call};
+use crate::lent::Lent;
+use crate::tally::Tally;
+
+/// A buffer that is much too long has up to this many bytes more than needed.
+const MUCH: usize = 3000;
+
+/// Compares the implementations and keeps the tally.
+pub struct Judge {
+    pub tally: Tally,
+    random: Random,
+}
+
+/// One input and what came of it.
+struct Case<'a> {
+    call: Call,
+    input: &'a [u8],
+    tested: (Answer, Lent),
+    plain: (Answer, Lent),
+}
+
+impl Judge {
+    pub fn new() -> Judge {
+        Judge {
+            tally: Tally::default(),
+            random: Random::new(7),
+        }
+    }
+
+    /// Runs the input with a buffer of one of the lengths that matter to it.
+    pub fn run(&mut self, call: Call, input: &[u8]) {
+        let needed = self.needed(call, input);
+        let out_len = match self.random.below(8) {
+            0 => 0,
+            1 => needed.saturating_sub(1),
+            2 => needed + 1,
+            3 => needed + self.random.below(MUCH),
+            4 => self.random.below(needed + 1),
+            _ => needed,
+        };
+        self.run_with(call, input, out_len);
+    }
+
+    /// Runs the input with a buffer of the given length; hands out the answer and the output.
+    pub fn run_with(&mut self, call: Call, input: &[u8], out_len: usize) -> (Answer, Vec<u8>) {
+        let lent_input = Lent::holding(&mut self.random, input);
+        let mut tested_out = Lent::new(&mut self.random, out_len);
+        let mut plain_out = tested_out.clone();
+        let tested = call.tested(lent_input.middle(), tested_out.middle_mut());
+        let plain = call.plain(input, plain_out.middle_mut());
+        let case = Case {
+            call,
+            input,
+            tested: (tested, tested_out),
+            plain: (plain, plain_out),
+        };
+        case.check(lent_input.unchanged_past(0));
+        self.tally.add(call, tested);
+        let written = case.written(tested);
+        (tested, case.tested.1.middle()[..written].to_vec())
+    }
+
+    /// The length of buffer that the input calls for, or would if it were accepted.
+    fn needed(&mut self, call: Call, input: &[u8]) -> usize {
+        let mut sheet = [0; MAX_SHEET];
+        let mut count = || match plain::operator_to_sheet(input, &mut sheet) {
+            Ok(count) => usize::from(count),
+            Err(_) => self.random.below(29),
+        };
+        match call {
+            Call::OperatorToSheet => count() + 6,
+            Call::OperatorToGates => LETTERS_PER_COUNT * (count() + 1),
+            Call::GatesToOperator | Call::SheetToOperator => OPERATOR_BYTES,
+            Call::StatesToOrder => 0,
+        }
+    }
+}
+
+impl Case<'_> {
+    /// Ends the program unless both implementations did the same and kept to their buffers.
+    fn check(&self, input_unchanged: bool) {
+        self.demand(input_unchanged, "the input or the bytes around it changed");
+        let (tested, tested_out) = &self.tested;
+        let (plain, plain_out) = &self.plain;
+        self.demand(
+            without_letters(tested) == without_letters(plain),
+            "the answers differ",
+        );
+        let fits = self.written(*tested) <= tested_out.middle().len();
+        self.demand(fits, "more letters are answered than the buffer holds");
+        let kept = tested_out.unchanged_past(self.written(*tested));
+        self.demand(kept, "a byte outside the output changed");
+        let plain_kept = plain_out.unchanged_past(self.written(*plain));
+        self.demand(
+            plain_kept,
+            "the plain implementation changed a byte outside the output",
+        );
+        match (self.call, *tested) {
+            (Call::OperatorToGates, Answer::Count(count, _)) => self.check_gates(count as usize),
+            _ => self.demand(tested_out.same(plain_out), "the output differs"),
+        }
+    }
+
+    /// The written gate list keeps its promises and multiplies to the operator.
+    fn check_gates(&self, count: usize) {
+        let (tested, out) = &self.tested;
+        let list = &out.middle()[..self.written(*tested)];
+        let known = list.iter().all(|&letter| image(letter).is_some());
+        self.demand(known, "a byte of the gate list is no letter");
+        let cs_gates = list.iter().filter(|&&letter| letter == b'C').count();
+        self.demand(cs_gates == count, "the letters C are not the count");
+        let short = list.len() <= LETTERS_PER_COUNT * (count + 1);
+        self.demand(short, "the gate list has too many letters");
+        let mut least = [0; OPERATOR_BYTES];
+        let operator = Operator::read(self.input).expect("an accepted operator");
+        operator.write(&mut least);
+        let mut product = [0; OPERATOR_BYTES];
+        let answer = plain::gates_to_operator(list, &mut product);
+        self.demand(answer == Ok(count as u8), "the gate list has another count");
+        self.demand(
+            product == least,
+            "the gate list does not multiply to the operator",
+        );
+    }
+
+    /// The number of bytes that a call with this answer writes.
+    fn written(&self, answer: Answer) -> usize {
+        let Answer::Count(count, letters) = answer else {
+            return 0;
+        };
+        match self.call {
+            Call::OperatorToSheet => count as usize + 6,
+            Call::OperatorToGates => letters,
+            Call::GatesToOperator | Call::SheetToOperator => OPERATOR_BYTES,
+            Call::StatesToOrder => 0,
+        }
+    }
+
+    fn demand(&self, holds: bool, otherwise: &str) {
+        if holds {
+            return;
+        }
+        println!("{}: {otherwise}", self.call.name());
+        println!("input ({} bytes): {}", self.input.len(), hex(self.input));
+        for (name, (answer, out)) in [("dimfrets", &self.tested), ("plain", &self.plain)] {
+            let out = out.middle();
+            println!(
+                "{name}: {answer:?}, buffer ({} bytes): {}",
+                out.len(),
+                hex(out)
+            );
+        }
+        std::process::exit(1);
+    }
+}
+
+/// The answer as far as document 01 settles it.
+fn without_letters(answer: &Answer) -> Answer {
+    match *answer {
+        Answer::Count(count, _) => Answer::Count(count, 0),
+        other => other,
+    }
+}
+
+fn hex(bytes: &[u8]) -> String {
+    bytes.iter().map(|byte| format!("{byte:02x}")).collect()
+}

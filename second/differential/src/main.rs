@@ -1,0 +1,37 @@
+//! Runs every call on both implementations with fixed seeds and compares answers and bytes. The
+//! first difference is printed and ends the run with exit code 1; so does a tally with gaps.
+
+#![forbid(unsafe_code)]
+
+mod call;
+mod judge;
+mod lent;
+mod lists;
+mod operators;
+mod orders;
+mod sheets;
+mod tally;
+mod trials;
+
+use std::process::ExitCode;
+
+use judge::Judge;
+
+fn main() -> ExitCode {
+    let mut judge = Judge::new();
+    trials::run(&mut judge);
+    operators::run(&mut judge);
+    lists::run(&mut judge);
+    sheets::run(&mut judge);
+    orders::run(&mut judge);
+    judge.tally.print();
+    let gaps = judge.tally.gaps();
+    for gap in &gaps {
+        println!("too few: {gap}");
+    }
+    if gaps.is_empty() {
+        println!("both implementations agree");
+        return ExitCode::SUCCESS;
+    }
+    ExitCode::FAILURE
+}

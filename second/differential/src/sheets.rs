@@ -1,0 +1,196 @@
+//! Sheets: those of operators of every count, and ones damaged in every way that document 01 turns
+//! away.
+
+// Damages have one type, whether or not they change the length.
+#![allow(clippy::ptr_arg)]
+
+use plain::generator::GENERATOR_COUNT;
+use plain::matrix::SIZE;
+use plain::operator::MAX_EXPONENT;
+use plain::sheet::{columns, MINUS};
+use samples::Random;
+
+use crate::call::Call;
+use crate::judge::Judge;
+
+const INPUTS: usize = 60_000;
+const PAIRS_PER_LENGTH: usize = 60;
+const LENGTHS: std::ops::RangeInclusive<usize> = 0..=40;
+
+const BAD_GENERATORS: [u8; 8] = [0, 16, 17, 127, 128, 129, 143, 255];
+const BAD_COLUMNS: [u8; 8] = [0, 7, 8, 127, 128, 135, 136, 255];
+
+const DAMAGES: [fn(&mut Random, &mut Vec<u8>); 17] = [
+    bad_generator,
+    bad_column,
+    bad_generator_and_repeated,
+    bad_column_and_repeated,
+    repeat_column,
+    repeat_column_with_sign,
+    swap_columns,
+    negate_column,
+    negate_two_columns,
+    equal_neighbours,
+    swap_generators,
+    other_generator,
+    insert_generator,
+    remove_generator,
+    random_generators,
+    flip_bit,
+    random_sheet,
+];
+
+/// Runs the call that reads sheets.
+pub fn run(judge: &mut Judge) {
+    let mut random = Random::new(4);
+    for _ in 0..INPUTS / 2 {
+        let count = random.below(usize::from(MAX_EXPONENT) + 1) as u8;
+        let mut sheet = samples::sheet(&mut random, count);
+        judge.run(Call::SheetToOperator, &sheet);
+        let times = if random.chance(4) { 2 } else { 1 };
+        for _ in 0..times {
+            random.pick(&DAMAGES)(&mut random, &mut sheet);
+        }
+        judge.run(Call::SheetToOperator, &sheet);
+    }
+    for len in LENGTHS {
+        for _ in 0..PAIRS_PER_LENGTH {
+            let mut sheet = of_length(&mut random, len);
+            judge.run(Call::SheetToOperator, &sheet);
+            random.pick(&DAMAGES)(&mut random, &mut sheet);
+            judge.run(Call::SheetToOperator, &sheet);
+        }
+    }
+}
+
+/// Random generators before a Clifford, or as much of it as the length leaves.
+fn of_length(random: &mut Random, len: usize) -> Vec<u8> {
+    let generators = len.saturating_sub(SIZE);
+    let mut sheet: Vec<u8> = (0..generators).map(|_| generator(random)).collect();
+    let columns = columns(&samples::clifford(random).matrix);
+    sheet.extend_from_slice(&columns[..len - generators]);
+    sheet
+}
+
+/// The number of generator bytes; none in what is shorter than a sheet.
+fn count(sheet: &[u8]) -> usize {
+    sheet.len().saturating_sub(SIZE)
+}
+
+/// The place of a generator, if there is one.
+fn generator_place(random: &mut Random, sheet: &[u8]) -> Option<usize> {
+    (count(sheet) > 0).then(|| random.below(count(sheet)))
+}
+
+/// The places of two different columns, if there are six.
+fn column_places(random: &mut Random, sheet: &[u8]) -> Option<(usize, usize)> {
+    let first = sheet.len().checked_sub(SIZE)?;
+    let (i, j) = random.two_below(SIZE);
+    Some((first + i, first + j))
+}
+
+fn generator(random: &mut Random) -> u8 {
+    1 + random.below(GENERATOR_COUNT) as u8
+}
+
+fn bad_generator(random: &mut Random, sheet: &mut Vec<u8>) {
+    if let Some(place) = generator_place(random, sheet) {
+        sheet[place] = *random.pick(&BAD_GENERATORS);
+    }
+}
+
+fn bad_column(random: &mut Random, sheet: &mut Vec<u8>) {
+    if let Some((place, _)) = column_places(random, sheet) {
+        sheet[place] = *random.pick(&BAD_COLUMNS);
+    }
+}
+
+fn bad_generator_and_repeated(random: &mut Random, sheet: &mut Vec<u8>) {
+    bad_generator(random, sheet);
+    repeat_column(random, sheet);
+}
+
+fn bad_column_and_repeated(random: &mut Random, sheet: &mut Vec<u8>) {
+    repeat_column(random, sheet);
+    bad_column(random, sheet);
+}
+
+fn repeat_column(random: &mut Random, sheet: &mut Vec<u8>) {
+    if let Some((i, j)) = column_places(random, sheet) {
+        sheet[i] = sheet[j];
+    }
+}
+
+fn repeat_column_with_sign(random: &mut Random, sheet: &mut Vec<u8>) {
+    if let Some((i, j)) = column_places(random, sheet) {
+        sheet[i] = sheet[j] ^ MINUS;
+    }
+}
+
+fn swap_columns(random: &mut Random, sheet: &mut Vec<u8>) {
+    if let Some((i, j)) = column_places(random, sheet) {
+        sheet.swap(i, j);
+    }
+}
+
+fn negate_column(random: &mut Random, sheet: &mut Vec<u8>) {
+    if let Some((i, _)) = column_places(random, sheet) {
+        sheet[i] ^= MINUS;
+    }
+}
+
+/// Another Clifford, and so the sheet of another operator.
+fn negate_two_columns(random: &mut Random, sheet: &mut Vec<u8>) {
+    if let Some((i, j)) = column_places(random, sheet) {
+        sheet[i] ^= MINUS;
+        sheet[j] ^= MINUS;
+    }
+}
+
+fn equal_neighbours(random: &mut Random, sheet: &mut Vec<u8>) {
+    if count(sheet) > 1 {
+        let place = random.below(count(sheet) - 1);
+        sheet[place] = sheet[place + 1];
+    }
+}
+
+fn swap_generators(random: &mut Random, sheet: &mut Vec<u8>) {
+    if count(sheet) > 1 {
+        let (i, j) = random.two_below(count(sheet));
+        sheet.swap(i, j);
+    }
+}
+
+fn other_generator(random: &mut Random, sheet: &mut Vec<u8>) {
+    if let Some(place) = generator_place(random, sheet) {
+        sheet[place] = generator(random);
+    }
+}
+
+fn insert_generator(random: &mut Random, sheet: &mut Vec<u8>) {
+    let place = random.below(count(sheet) + 1);
+    sheet.insert(place, generator(random));
+}
+
+fn remove_generator(random: &mut Random, sheet: &mut Vec<u8>) {
+    if let Some(place) = generator_place(random, sheet) {
+        sheet.remove(place);
+    }
+}
+
+/// Few generators, so that the sheet is often that of its operator.
+fn random_generators(random: &mut Random, sheet: &mut Vec<u8>) {
+    let len = SIZE + random.below(5);
+    *sheet = of_length(random, len);
+}
+
+fn flip_bit(random: &mut Random, sheet: &mut Vec<u8>) {
+    if !sheet.is_empty() {
+        let place = random.below(sheet.len());
+        sheet[place] ^= 1 << random.below(8);
+    }
+}
+
+fn random_sheet(random: &mut Random, sheet: &mut Vec<u8>) {
+    random.fill(sheet);
+}

@@ -1,0 +1,137 @@
+//! The cases of document 01, "Trial cuts", and the example of `cut`, on both implementations.
+
+use plain::matrix::{scale, Matrix, IDENTITY};
+use plain::operator::{Operator, OPERATOR_BYTES};
+
+use crate::call::{order, Answer, Call};
+use crate::judge::Judge;
+
+const CUT_EXAMPLE: Matrix = [
+    [1, 1, 1, 0, 0, -1],
+    [-1, -1, 1, 0, 0, -1],
+    [1, -1, -1, 0, 0, -1],
+    [0, 0, 0, 0, -2, 0],
+    [0, 0, 0, 2, 0, 0],
+    [1, -1, 1, 0, 0, 1],
+];
+
+const IDENTITY_SHEET: &[u8] = &[1, 2, 3, 4, 5, 6];
+const MINUS_IDENTITY_SHEET: &[u8] = &[129, 130, 131, 132, 133, 134];
+const CZ_SHEET: &[u8] = &[2, 129, 6, 5, 132, 131];
+const CHC_SHEET: &[u8] = &[3, 13, 3, 130, 1, 4, 5, 6];
+
+/// Runs all trial cuts.
+pub fn run(judge: &mut Judge) {
+    accepted_operators(judge);
+    refused_operators(judge);
+    gate_lists(judge);
+    refused_sheets(judge);
+    orders(judge);
+}
+
+fn accepted_operators(judge: &mut Judge) {
+    let identity = file(&IDENTITY, 0);
+    cuts(judge, &identity, &identity, IDENTITY_SHEET);
+    cuts(
+        judge,
+        &file(&scale(&IDENTITY, 2), 2),
+        &identity,
+        IDENTITY_SHEET,
+    );
+    cuts(
+        judge,
+        &file(&scale(&IDENTITY, 16384), 28),
+        &identity,
+        IDENTITY_SHEET,
+    );
+    let minus = file(&scale(&IDENTITY, -1), 0);
+    cuts(judge, &minus, &minus, MINUS_IDENTITY_SHEET);
+    let example = file(&CUT_EXAMPLE, 2);
+    cuts(judge, &example, &example, CHC_SHEET);
+}
+
+fn refused_operators(judge: &mut Judge) {
+    refused_operator(judge, &file(&scale(&IDENTITY, 16384), 29), 2);
+    let mut entry = scale(&IDENTITY, 2);
+    entry[0][0] = 3;
+    refused_operator(judge, &file(&entry, 2), 3);
+    refused_operator(judge, &file(&scale(&IDENTITY, 0), 0), 4);
+    refused_operator(judge, &file(&IDENTITY, 1), 4);
+    let mut improper = IDENTITY;
+    improper[0][0] = -1;
+    refused_operator(judge, &file(&improper, 0), 5);
+}
+
+fn gate_lists(judge: &mut Judge) {
+    list_cuts(judge, b"", IDENTITY_SHEET);
+    list_cuts(judge, b"C", &[3, 1, 2, 3, 4, 5, 6]);
+    list_cuts(judge, b"CC", CZ_SHEET);
+    list_cuts(judge, b"Z", CZ_SHEET);
+    list_cuts(judge, b"HH", IDENTITY_SHEET);
+    list_cuts(judge, b"ZZ", MINUS_IDENTITY_SHEET);
+    list_cuts(judge, b"CCCCCCCC", IDENTITY_SHEET);
+    list_cuts(judge, b"CHC", CHC_SHEET);
+}
+
+fn refused_sheets(judge: &mut Judge) {
+    for sheet in [[13, 3, 1, 2, 3, 4, 5, 6], [3, 3, 1, 2, 3, 4, 5, 6]] {
+        expect(
+            judge,
+            Call::SheetToOperator,
+            &sheet,
+            Answer::Refused(13),
+            &[],
+        );
+    }
+}
+
+fn orders(judge: &mut Judge) {
+    for ((t, p), states) in [((28, 50), 30), ((0, 1000), 0)] {
+        let answer = Answer::Count(states, 0);
+        expect(judge, Call::StatesToOrder, &order(t, p), answer, &[]);
+    }
+}
+
+/// The list multiplies to the operator of the sheet.
+fn list_cuts(judge: &mut Judge, list: &[u8], sheet: &[u8]) {
+    let (_, file) = judge.run_with(Call::GatesToOperator, list, OPERATOR_BYTES);
+    expect(judge, Call::GatesToOperator, list, count_of(sheet), &file);
+    cuts(judge, &file, &file, sheet);
+}
+
+/// The operator cuts into the sheet, and sheet and gate list lead back to its least file.
+fn cuts(judge: &mut Judge, file: &[u8], least: &[u8], sheet: &[u8]) {
+    let answer = count_of(sheet);
+    expect(judge, Call::OperatorToSheet, file, answer, sheet);
+    expect(judge, Call::SheetToOperator, sheet, answer, least);
+    let (_, list) = judge.run_with(Call::OperatorToGates, file, 256 * (sheet.len() - 5));
+    expect(judge, Call::GatesToOperator, &list, answer, least);
+}
+
+fn refused_operator(judge: &mut Judge, file: &[u8], number: u8) {
+    let answer = Answer::Refused(number);
+    expect(judge, Call::OperatorToSheet, file, answer, &[]);
+    expect(judge, Call::OperatorToGates, file, answer, &[]);
+}
+
+/// Ends the program unless the call gives this answer and output, with a buffer that is exactly
+/// long enough and with one that is longer.
+fn expect(judge: &mut Judge, call: Call, input: &[u8], answer: Answer, output: &[u8]) {
+    for out_len in [output.len(), output.len() + 100] {
+        let outcome = judge.run_with(call, input, out_len);
+        if outcome != (answer, output.to_vec()) {
+            println!("trial cut, {}: input {input:?}", call.name());
+            println!("expected {answer:?}, {output:?}; both gave {outcome:?}");
+            std::process::exit(1);
+        }
+    }
+}
+
+fn count_of(sheet: &[u8]) -> Answer {
+    Answer::Count(sheet.len() as u64 - 6, 0)
+}
+
+fn file(matrix: &Matrix, exponent: u8) -> Vec<u8> {
+    let matrix = *matrix;
+    samples::file(&Operator { matrix, exponent })
+}

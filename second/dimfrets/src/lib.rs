@@ -1,0 +1,170 @@
+//! Safe calls of the CS cutter's C interface, `include/dimfrets.h`. Formats, numbers and the order
+//! of refusals are those of document 01.
+//!
+//! A refusal leaves every byte of the output as it was; on success the bytes past the output keep
+//! theirs too.
+//!
+//! # Example
+//!
+//! The operator of `CHC`: a file of the exponent k and 36 entries, low byte first.
+//!
+//! ```
+//! let rows: [[i16; 6]; 6] = [
+//!     [1, 1, 1, 0, 0, -1],
+//!     [-1, -1, 1, 0, 0, -1],
+//!     [1, -1, -1, 0, 0, -1],
+//!     [0, 0, 0, 0, -2, 0],
+//!     [0, 0, 0, 2, 0, 0],
+//!     [1, -1, 1, 0, 0, 1],
+//! ];
+//! let mut file = vec![2];
+//! file.extend(rows.iter().flatten().flat_map(|entry| entry.to_le_bytes()));
+//!
+//! let mut sheet = [0; dimfrets::MAX_SHEET];
+//! let count = dimfrets::operator_to_sheet(&file, &mut sheet)?;
+//! assert_eq!(count, 2);
+//! assert_eq!(sheet[..8], [3, 13, 3, 130, 1, 4, 5, 6]);
+//!
+//! let mut list = vec![0; dimfrets::GATES_BUFFER];
+//! let written = dimfrets::operator_to_gates(&file, &mut list)?;
+//! let mut back = [0; dimfrets::OPERATOR_BYTES];
+//! dimfrets::gates_to_operator(&list[..written.letters], &mut back)?;
+//! assert_eq!(back[..], file);
+//!
+//! assert_eq!(dimfrets::states_to_order(2, 50), Ok(3));
+//! # Ok::<(), dimfrets::Refusal>(())
+//! ```
+
+#![deny(unsafe_op_in_unsafe_fn)]
+
+mod refusal;
+
+pub use refusal::Refusal;
+
+/// The length of an operator file.
+pub const OPERATOR_BYTES: usize = 73;
+/// The length of the longest sheet.
+pub const MAX_SHEET: usize = 34;
+/// The length of the longest gate list that is read.
+pub const MAX_LETTERS: usize = 8192;
+/// The length of a buffer that holds any gate list written.
+pub const GATES_BUFFER: usize = 256 * 29;
+
+/// What a written gate list has: its count, the number of its letters C, and all its letters.
+#[derive(Clone, Copy, Debug, PartialEq, Eq)]
+pub struct Letters {
+    pub count: u8,
+    pub letters: usize,
+}
+
+/// A call from lent bytes to lent bytes.
+type Call = unsafe extern "C" fn(*const u8, usize, *mut u8, usize) -> u64;
+
+extern "C" {
+    fn dimfrets_operator_to_sheet(i: *const u8, i_len: usize, o: *mut u8, o_len: usize) -> u64;
+    fn dimfrets_operator_to_gates(i: *const u8, i_len: usize, o: *mut u8, o_len: usize) -> u64;
+    fn dimfrets_gates_to_operator(i: *const u8, i_len: usize, o: *mut u8, o_len: usize) -> u64;
+    fn dimfrets_sheet_to_operator(i: *const u8, i_len: usize, o: *mut u8, o_len: usize) -> u64;
+    fn dimfrets_states_to_order(t: u64, p: u64) -> u64;
+}
+
+/// Cuts an operator file into its sheet and answers the count t; the sheet has t + 6 bytes.
+///
+/// Refuses with [`Refusal::FileLength`] to [`Refusal::BufferTooShort`], in their order.
+pub fn operator_to_sheet(file: &[u8], out: &mut [u8]) -> Result<u8, Refusal> {
+    count(run(dimfrets_operator_to_sheet, file, out))
+}
+
+/// Cuts an operator file into a gate list of t letters C; `out` has at least 256 × (t + 1) bytes.
+///
+/// Refuses with [`Refusal::FileLength`] to [`Refusal::BufferTooShort`], in their order.
+pub fn operator_to_gates(file: &[u8], out: &mut [u8]) -> Result<Letters, Refusal> {
+    let (answer, letters) = split(run(dimfrets_operator_to_gates, file, out));
+    answer.map(|count| Letters { count, letters })
+}
+
+/// Multiplies a gate list, writes the operator file, 73 bytes, and answers the operator's count.
+///
+/// Refuses with [`Refusal::TooManyLetters`]; then with [`Refusal::UnknownLetter`] or
+/// [`Refusal::BeginningTooDeep`] at the leftmost place; then with [`Refusal::BufferTooShort`].
+pub fn gates_to_operator(list: &[u8], out: &mut [u8]) -> Result<u8, Refusal> {
+    count(run(dimfrets_gates_to_operator, list, out))
+}
+
+/// Multiplies a sheet, writes the operator file, 73 bytes, and answers the count.
+///
+/// Refuses with [`Refusal::SheetLength`] to [`Refusal::OtherSheet`], in their order, then with
+/// [`Refusal::BufferTooShort`].
+pub fn sheet_to_operator(sheet: &[u8], out: &mut [u8]) -> Result<u8, Refusal> {
+    count(run(dimfrets_sheet_to_operator, sheet, out))
+}
+
+/// The number of CS states to order for the count `t` and a spoilage of `p` thousandths.
+///
+/// Refuses with [`Refusal::OrderOutOfRange`].
+pub fn states_to_order(t: u64, p: u64) -> Result<u8, Refusal> {
+    // SAFETY: the call takes numbers alone and is defined for all of them.
+    count(unsafe { dimfrets_states_to_order(t, p) })
+}
+
+/// Lends both slices to a call. An empty slice is lent as an existing byte with the length 0, for
+/// its own pointer may point nowhere.
+fn run(call: Call, input: &[u8], out: &mut [u8]) -> u64 {
+    let (in_len, out_len) = (input.len(), out.len());
+    let input = if in_len == 0 { &[0][..] } else { input };
+    let spare = &mut [0][..];
+    let out = if out_len == 0 { spare } else { out };
+    // SAFETY: both are valid for their lengths; a shared and an exclusive borrow are apart.
+    unsafe { call(input.as_ptr(), in_len, out.as_mut_ptr(), out_len) }
+}
+
+/// The count of an answer without letters.
+fn count(answer: u64) -> Result<u8, Refusal> {
+    let (answer, letters) = split(answer);
+    assert_eq!(letters, 0, "the library counted letters of no gate list");
+    answer
+}
+
+/// The count or refusal in the low 16 bits, and the letters above them.
+fn split(answer: u64) -> (Result<u8, Refusal>, usize) {
+    let (low, letters) = (answer as u16, (answer >> 16) as usize);
+    if let Ok(count) = u8::try_from(low) {
+        return (Ok(count), letters);
+    }
+    assert_eq!(letters, 0, "the library refused and counted letters");
+    let refusal = Refusal::from_number(low - 256);
+    let refusal = refusal.expect("the library refused with a known number");
+    (Err(refusal), 0)
+}
+
+#[cfg(test)]
+mod tests {
+    use super::*;
+
+    #[test]
+    fn an_answer_is_split_into_its_parts() {
+        assert_eq!(split(28), (Ok(28), 0));
+        assert_eq!(split(7424 << 16 | 255), (Ok(255), 7424));
+        assert_eq!(split(256 + 1), (Err(Refusal::FileLength), 0));
+        assert_eq!(split(256 + 14), (Err(Refusal::OrderOutOfRange), 0));
+    }
+
+    #[test]
+    #[should_panic(expected = "known number")]
+    fn a_refusal_has_a_known_number() {
+        let _ = split(256 + 15);
+    }
+
+    #[test]
+    fn empty_slices_are_lent() {
+        assert_eq!(operator_to_sheet(&[], &mut []), Err(Refusal::FileLength));
+        assert_eq!(operator_to_gates(&[], &mut []), Err(Refusal::FileLength));
+        assert_eq!(
+            gates_to_operator(&[], &mut []),
+            Err(Refusal::BufferTooShort)
+        );
+        assert_eq!(sheet_to_operator(&[], &mut []), Err(Refusal::SheetLength));
+        let mut out = [0; OPERATOR_BYTES];
+        assert_eq!(gates_to_operator(&[], &mut out), Ok(0));
+    }
+}

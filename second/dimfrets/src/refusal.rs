@@ -1,0 +1,98 @@
+//! The refusals of document 01, "What can be turned away", with their numbers.
+
+use std::fmt;
+
+/// Why a call was turned away. The discriminants are the numbers of document 01.
+#[derive(Clone, Copy, Debug, PartialEq, Eq, PartialOrd, Ord, Hash)]
+#[repr(u8)]
+pub enum Refusal {
+    FileLength = 1,
+    ExponentTooLarge = 2,
+    EntryTooLarge = 3,
+    NotOrthogonal = 4,
+    NotProper = 5,
+    BufferTooShort = 6,
+    TooManyLetters = 7,
+    UnknownLetter = 8,
+    BeginningTooDeep = 9,
+    SheetLength = 10,
+    SheetByte = 11,
+    NoClifford = 12,
+    OtherSheet = 13,
+    OrderOutOfRange = 14,
+}
+
+impl Refusal {
+    /// All refusals, in the order of their numbers.
+    pub const ALL: [Refusal; 14] = [
+        Refusal::FileLength,
+        Refusal::ExponentTooLarge,
+        Refusal::EntryTooLarge,
+        Refusal::NotOrthogonal,
+        Refusal::NotProper,
+        Refusal::BufferTooShort,
+        Refusal::TooManyLetters,
+        Refusal::UnknownLetter,
+        Refusal::BeginningTooDeep,
+        Refusal::SheetLength,
+        Refusal::SheetByte,
+        Refusal::NoClifford,
+        Refusal::OtherSheet,
+        Refusal::OrderOutOfRange,
+    ];
+
+    /// The number in document 01, 1 to 14.
+    pub fn number(self) -> u8 {
+        self as u8
+    }
+
+    /// The refusal with a number of 1 to 14.
+    pub fn from_number(number: u16) -> Option<Refusal> {
+        let index = usize::from(number).checked_sub(1)?;
+        Refusal::ALL.get(index).copied()
+    }
+
+    fn words(self) -> &'static str {
+        match self {
+            Refusal::FileLength => "the operator file is not 73 bytes long",
+            Refusal::ExponentTooLarge => "the exponent of the operator file is above 28",
+            Refusal::EntryTooLarge => "the square of an entry exceeds 2 to the power k",
+            Refusal::NotOrthogonal => "the operator is not orthogonal",
+            Refusal::NotProper => "the operator is orthogonal, but not proper",
+            Refusal::BufferTooShort => "the output buffer is too short",
+            Refusal::TooManyLetters => "the gate list has more than 8,192 letters",
+            Refusal::UnknownLetter => "a byte of the gate list is no letter of the table",
+            Refusal::BeginningTooDeep => {
+                "the product of a beginning of the gate list has a least exponent above 28"
+            }
+            Refusal::SheetLength => "the sheet has fewer than 6 or more than 34 bytes",
+            Refusal::SheetByte => "a byte of the sheet is no generator or no column",
+            Refusal::NoClifford => "the six columns of the sheet are no Clifford",
+            Refusal::OtherSheet => "cutting the sheet's operator gives another sheet",
+            Refusal::OrderOutOfRange => "t is above 28 or the spoilage above 1000 thousandths",
+        }
+    }
+}
+
+impl fmt::Display for Refusal {
+    fn fmt(&self, f: &mut fmt::Formatter<'_>) -> fmt::Result {
+        f.write_str(self.words())
+    }
+}
+
+impl std::error::Error for Refusal {}
+
+#[cfg(test)]
+mod tests {
+    use super::*;
+
+    #[test]
+    fn numbers_lead_to_their_refusals() {
+        for (number, refusal) in (1..).zip(Refusal::ALL) {
+            assert_eq!(u16::from(refusal.number()), number);
+            assert_eq!(Refusal::from_number(number), Some(refusal));
+        }
+        assert_eq!(Refusal::from_number(0), None);
+        assert_eq!(Refusal::from_number(15), None);
+    }
+}

@@ -1,0 +1,83 @@
+//! The CS cutter of document 01 in plain Rust: operators, sheets and gate lists, and the states
+//! to order. Every definition, number and order of refusals is that of document 01.
+//!
+//! A refusal is answered by its number (see [`refusal`]); it leaves every byte of the output as it
+//! was. On success the bytes past the output keep theirs too.
+
+#![forbid(unsafe_code)]
+
+pub mod gate;
+pub mod generator;
+pub mod matrix;
+pub mod operator;
+pub mod refusal;
+pub mod sheet;
+pub mod words;
+
+use gate::{LETTERS_PER_COUNT, MAX_LETTERS};
+use operator::{Operator, MAX_EXPONENT, OPERATOR_BYTES};
+use sheet::Sheet;
+
+/// The largest spoilage, in thousandths.
+pub const MAX_SPOILAGE: u64 = 1000;
+
+/// Cuts an operator file into its sheet and answers the count.
+pub fn operator_to_sheet(file: &[u8], out: &mut [u8]) -> Result<u8, u8> {
+    let sheet = Sheet::cut(Operator::read(file)?);
+    let out = lend(out, sheet.size())?;
+    sheet.write(out);
+    Ok(sheet.count())
+}
+
+/// Cuts an operator file into a gate list; answers the count and the number of letters written.
+pub fn operator_to_gates(file: &[u8], out: &mut [u8]) -> Result<(u8, usize), u8> {
+    let sheet = Sheet::cut(Operator::read(file)?);
+    let out = lend(out, LETTERS_PER_COUNT * (sheet.generators.len() + 1))?;
+    let letters = words::write_gates(&sheet, out);
+    Ok((sheet.count(), letters))
+}
+
+/// Multiplies a gate list, writes the operator file and answers the operator's count.
+pub fn gates_to_operator(list: &[u8], out: &mut [u8]) -> Result<u8, u8> {
+    if list.len() > MAX_LETTERS {
+        return Err(refusal::TOO_MANY_LETTERS);
+    }
+    let mut product = Operator::IDENTITY;
+    for &letter in list {
+        let image = gate::image(letter).ok_or(refusal::UNKNOWN_LETTER)?;
+        product = product.times(image).reduced();
+        if product.exponent > MAX_EXPONENT {
+            return Err(refusal::BEGINNING_TOO_DEEP);
+        }
+    }
+    write_operator(&product, out)
+}
+
+/// Reads a sheet, writes the file of its operator and answers the count.
+pub fn sheet_to_operator(sheet: &[u8], out: &mut [u8]) -> Result<u8, u8> {
+    let sheet = Sheet::read(sheet)?;
+    let operator = sheet.operator().reduced();
+    if Sheet::cut(operator) != sheet {
+        return Err(refusal::OTHER_SHEET);
+    }
+    write_operator(&operator, out)
+}
+
+/// The number of CS states to order for the count `t` and a spoilage of `p` thousandths.
+pub fn states_to_order(t: u64, p: u64) -> Result<u64, u8> {
+    if t > u64::from(MAX_EXPONENT) || p > MAX_SPOILAGE {
+        return Err(refusal::ORDER_OUT_OF_RANGE);
+    }
+    Ok(t + (t * p).div_ceil(1000))
+}
+
+/// Writes a least-exponent operator; its exponent is the count, for a cut lowers it by one.
+fn write_operator(operator: &Operator, out: &mut [u8]) -> Result<u8, u8> {
+    operator.write(lend(out, OPERATOR_BYTES)?);
+    Ok(operator.exponent)
+}
+
+/// The first `len` bytes of a buffer, if it has as many.
+fn lend(out: &mut [u8], len: usize) -> Result<&mut [u8], u8> {
+    out.get_mut(..len).ok_or(refusal::BUFFER_TOO_SHORT)
+}

@@ -1,0 +1,30 @@
+//! The numbers of the refusals, in the order of document 01, "What can be turned away".
+
+/// An operator file whose length is not 73.
+pub const FILE_LENGTH: u8 = 1;
+/// An operator file with k above 28.
+pub const EXPONENT_TOO_LARGE: u8 = 2;
+/// An entry whose square exceeds 2 to the power k.
+pub const ENTRY_TOO_LARGE: u8 = 3;
+/// A matrix that is not orthogonal.
+pub const NOT_ORTHOGONAL: u8 = 4;
+/// A matrix that is orthogonal and not proper.
+pub const NOT_PROPER: u8 = 5;
+/// An output buffer that is too short.
+pub const BUFFER_TOO_SHORT: u8 = 6;
+/// A gate list of more than 8,192 letters.
+pub const TOO_MANY_LETTERS: u8 = 7;
+/// A byte that is no letter of the table.
+pub const UNKNOWN_LETTER: u8 = 8;
+/// A beginning of a gate list whose product has a least exponent above 28.
+pub const BEGINNING_TOO_DEEP: u8 = 9;
+/// A sheet of fewer than 6 or more than 34 bytes.
+pub const SHEET_LENGTH: u8 = 10;
+/// A generator byte outside 1 to 15, or a column byte outside 1 to 6 and 129 to 134.
+pub const SHEET_BYTE: u8 = 11;
+/// Six columns that are no Clifford.
+pub const NO_CLIFFORD: u8 = 12;
+/// A sheet whose operator has another sheet.
+pub const OTHER_SHEET: u8 = 13;
+/// An order with t above 28 or p above 1000.
+pub const ORDER_OUT_OF_RANGE: u8 = 14;

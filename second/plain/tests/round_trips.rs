@@ -1,0 +1,72 @@
+//! Round trips: every product of up to three generators, and deep ones of every count.
+
+use plain::generator::GENERATORS;
+use plain::operator::{Operator, MAX_EXPONENT, OPERATOR_BYTES};
+use plain::sheet::Sheet;
+use plain::words::Words;
+use plain::{gates_to_operator, operator_to_gates, operator_to_sheet, sheet_to_operator};
+
+/// Operator to sheet and to gates, and both back; answers the count.
+fn round_trip(operator: &Operator) -> u8 {
+    let mut file = [0; OPERATOR_BYTES];
+    operator.write(&mut file);
+    let mut sheet = [0; 34];
+    let count = operator_to_sheet(&file, &mut sheet).expect("a proper operator");
+    assert_eq!(count, operator.exponent);
+
+    let mut back = [0; OPERATOR_BYTES];
+    let sheet = &sheet[..usize::from(count) + 6];
+    assert_eq!(sheet_to_operator(sheet, &mut back), Ok(count));
+    assert_eq!(back, file);
+
+    let mut list = vec![0; 256 * (usize::from(count) + 1)];
+    let (same_count, letters) = operator_to_gates(&file, &mut list).unwrap();
+    assert_eq!(same_count, count);
+    let mut back = [0; OPERATOR_BYTES];
+    assert_eq!(gates_to_operator(&list[..letters], &mut back), Ok(count));
+    assert_eq!(back, file);
+    count
+}
+
+#[test]
+fn every_clifford() {
+    for (columns, _) in Words::get().cliffords() {
+        let sheet = Sheet {
+            generators: vec![],
+            columns: *columns,
+        };
+        assert_eq!(round_trip(&sheet.operator()), 0);
+    }
+}
+
+#[test]
+fn every_product_of_three_generators() {
+    let operators = GENERATORS.each_ref().map(|generator| generator.operator());
+    for first in &operators {
+        for second in &operators {
+            let two = first.times(second).reduced();
+            round_trip(&two);
+            for third in &operators {
+                round_trip(&two.times(third).reduced());
+            }
+        }
+    }
+}
+
+#[test]
+fn walks_through_every_count() {
+    for stride in 0..60 {
+        let mut operator = Operator::IDENTITY;
+        let mut step = stride;
+        while operator.exponent < MAX_EXPONENT {
+            step = step * 5 + stride + 1;
+            let generator = &GENERATORS[step / 7 % GENERATORS.len()];
+            let longer = operator.times(&generator.operator()).reduced();
+            if longer.exponent > operator.exponent {
+                operator = longer;
+                assert_eq!(round_trip(&operator), operator.exponent);
+            }
+            step %= 9973;
+        }
+    }
+}

@@ -1,0 +1,192 @@
+//! The cases of document 01, "Trial cuts", and the example of `cut`, in both directions.
+
+use plain::matrix::{scale, Matrix, IDENTITY};
+use plain::operator::{Operator, OPERATOR_BYTES};
+use plain::{
+    gates_to_operator, operator_to_gates, operator_to_sheet, sheet_to_operator, states_to_order,
+};
+
+/// What an untouched byte of an output buffer holds.
+const UNTOUCHED: u8 = 0xA5;
+
+const CUT_EXAMPLE: Matrix = [
+    [1, 1, 1, 0, 0, -1],
+    [-1, -1, 1, 0, 0, -1],
+    [1, -1, -1, 0, 0, -1],
+    [0, 0, 0, 0, -2, 0],
+    [0, 0, 0, 2, 0, 0],
+    [1, -1, 1, 0, 0, 1],
+];
+
+const CUT_EXAMPLE_SHEET: &[u8] = &[3, 13, 3, 130, 1, 4, 5, 6];
+const IDENTITY_SHEET: &[u8] = &[1, 2, 3, 4, 5, 6];
+const MINUS_IDENTITY_SHEET: &[u8] = &[129, 130, 131, 132, 133, 134];
+const C_SHEET: &[u8] = &[3, 1, 2, 3, 4, 5, 6];
+const CZ_SHEET: &[u8] = &[2, 129, 6, 5, 132, 131];
+
+fn file(matrix: Matrix, exponent: u8) -> [u8; OPERATOR_BYTES] {
+    let mut file = [0; OPERATOR_BYTES];
+    Operator { matrix, exponent }.write(&mut file);
+    file
+}
+
+/// The file of a gate list's operator.
+fn file_of_list(list: &[u8]) -> [u8; OPERATOR_BYTES] {
+    let mut file = [UNTOUCHED; OPERATOR_BYTES];
+    gates_to_operator(list, &mut file).expect("a list that is not refused");
+    file
+}
+
+/// The operator has this sheet, the sheet this operator, and its gate list leads back.
+fn assert_cut(file: &[u8], least: &[u8], sheet: &[u8]) {
+    let count = sheet.len() as u8 - 6;
+    let mut out = [UNTOUCHED; 40];
+    assert_eq!(operator_to_sheet(file, &mut out), Ok(count));
+    assert_eq!(&out[..sheet.len()], sheet);
+    assert!(out[sheet.len()..].iter().all(|&byte| byte == UNTOUCHED));
+
+    let mut back = [UNTOUCHED; OPERATOR_BYTES + 1];
+    assert_eq!(sheet_to_operator(sheet, &mut back), Ok(count));
+    assert_eq!(&back[..OPERATOR_BYTES], least);
+    assert_eq!(back[OPERATOR_BYTES], UNTOUCHED);
+
+    let mut list = vec![UNTOUCHED; 256 * (usize::from(count) + 1)];
+    let (gates_count, letters) = operator_to_gates(file, &mut list).unwrap();
+    assert_eq!(gates_count, count);
+    assert_eq!(file_of_list(&list[..letters]), least);
+    let cs_gates = list[..letters].iter().filter(|&&letter| letter == b'C');
+    assert_eq!(cs_gates.count(), usize::from(count));
+}
+
+fn assert_list(list: &[u8], sheet: &[u8]) {
+    let file = file_of_list(list);
+    assert_cut(&file, &file, sheet);
+}
+
+/// The operator is refused, and no byte is written.
+fn assert_refused(file: &[u8], refusal: u8) {
+    let mut out = [UNTOUCHED; 8192];
+    assert_eq!(operator_to_sheet(file, &mut out), Err(refusal));
+    assert_eq!(operator_to_gates(file, &mut out), Err(refusal));
+    assert_eq!(out, [UNTOUCHED; 8192]);
+}
+
+fn assert_sheet_refused(sheet: &[u8], refusal: u8) {
+    let mut out = [UNTOUCHED; OPERATOR_BYTES];
+    assert_eq!(sheet_to_operator(sheet, &mut out), Err(refusal));
+    assert_eq!(out, [UNTOUCHED; OPERATOR_BYTES]);
+}
+
+fn assert_list_refused(list: &[u8], refusal: u8) {
+    let mut out = [UNTOUCHED; OPERATOR_BYTES];
+    assert_eq!(gates_to_operator(list, &mut out), Err(refusal));
+    assert_eq!(out, [UNTOUCHED; OPERATOR_BYTES]);
+}
+
+#[test]
+fn identity_at_every_exponent() {
+    let least = file(IDENTITY, 0);
+    assert_cut(&least, &least, IDENTITY_SHEET);
+    assert_cut(&file(scale(&IDENTITY, 2), 2), &least, IDENTITY_SHEET);
+    assert_cut(&file(scale(&IDENTITY, 16384), 28), &least, IDENTITY_SHEET);
+    assert_refused(&file(scale(&IDENTITY, 16384), 29), 2);
+}
+
+#[test]
+fn gate_lists() {
+    assert_list(b"", IDENTITY_SHEET);
+    assert_list(b"C", C_SHEET);
+    assert_list(b"CC", CZ_SHEET);
+    assert_list(b"Z", CZ_SHEET);
+    assert_list(b"HH", IDENTITY_SHEET);
+    assert_list(b"ZZ", MINUS_IDENTITY_SHEET);
+    assert_list(b"CCCCCCCC", IDENTITY_SHEET);
+    assert_list(b"CHC", CUT_EXAMPLE_SHEET);
+    assert_eq!(file_of_list(b"ZZ"), file(scale(&IDENTITY, -1), 0));
+}
+
+#[test]
+fn the_example_of_cut() {
+    let example = file(CUT_EXAMPLE, 2);
+    assert_cut(&example, &example, CUT_EXAMPLE_SHEET);
+    assert_eq!(file_of_list(b"CHC"), example);
+    assert_cut(
+        &file(scale(&CUT_EXAMPLE, 4), 6),
+        &example,
+        CUT_EXAMPLE_SHEET,
+    );
+}
+
+#[test]
+fn refused_operators() {
+    let mut entry = scale(&IDENTITY, 2);
+    entry[2][4] = 3;
+    assert_refused(&file(entry, 2), 3);
+    assert_refused(&file([[0; 6]; 6], 0), 4);
+    assert_refused(&file(IDENTITY, 1), 4);
+    let mut improper = IDENTITY;
+    improper[0][0] = -1;
+    assert_refused(&file(improper, 0), 5);
+    assert_refused(&file(IDENTITY, 0)[..72], 1);
+    assert_refused(&[0; 74], 1);
+    assert_refused(&[], 1);
+}
+
+#[test]
+fn refused_sheets() {
+    assert_sheet_refused(&[13, 3, 1, 2, 3, 4, 5, 6], 13);
+    assert_sheet_refused(&[3, 3, 1, 2, 3, 4, 5, 6], 13);
+    assert_sheet_refused(&[1, 2, 3, 4, 5], 10);
+    assert_sheet_refused(&[1; 35], 10);
+    assert_sheet_refused(&[16, 1, 1, 3, 4, 5, 6], 11);
+    assert_sheet_refused(&[0, 1, 2, 3, 4, 5, 6], 11);
+    assert_sheet_refused(&[1, 2, 3, 4, 5, 128], 11);
+    assert_sheet_refused(&[3, 3, 1, 1, 3, 4, 5, 6], 12);
+    assert_sheet_refused(&[1, 2, 3, 4, 6, 5], 12);
+    assert_sheet_refused(&[1, 2, 3, 4, 5, 134], 12);
+}
+
+#[test]
+fn refused_gate_lists() {
+    assert_list_refused(&[b'?'; 8193], 7);
+    assert_list_refused(b"CHx", 8);
+    assert_list(&[b'H'; 8192], IDENTITY_SHEET);
+    let deepest = b"CHCSHshZ".repeat(64);
+    let place = (0..=deepest.len())
+        .find(|&end| gates_to_operator(&deepest[..end], &mut [0; OPERATOR_BYTES]) == Err(9));
+    let place = place.expect("a beginning above 28") - 1;
+    assert_list_refused(&[&deepest[..place], b"?"].concat(), 8);
+    assert_list_refused(&[&deepest[..=place], b"?"].concat(), 9);
+    assert_eq!(file_of_list(&deepest[..place])[0], 28);
+    // The list goes above 28 and comes back: seven C undo the last one.
+    assert_list_refused(&[&deepest[..=place], b"CCCCCCC"].concat(), 9);
+}
+
+#[test]
+fn short_buffers_come_last() {
+    let example = file(CUT_EXAMPLE, 2);
+    assert_eq!(operator_to_sheet(&example, &mut [0; 7]), Err(6));
+    assert_eq!(operator_to_sheet(&example, &mut [0; 8]), Ok(2));
+    assert_eq!(operator_to_gates(&example, &mut [0; 767]), Err(6));
+    assert!(operator_to_gates(&example, &mut [0; 768]).is_ok());
+    assert_eq!(gates_to_operator(b"CHC", &mut [0; 72]), Err(6));
+    assert_eq!(gates_to_operator(b"CHC?", &mut []), Err(8));
+    assert_eq!(sheet_to_operator(CUT_EXAMPLE_SHEET, &mut [0; 72]), Err(6));
+    assert_eq!(
+        sheet_to_operator(&[3, 3, 1, 2, 3, 4, 5, 6], &mut []),
+        Err(13)
+    );
+    assert_eq!(operator_to_sheet(&file(IDENTITY, 1), &mut []), Err(4));
+}
+
+#[test]
+fn states() {
+    assert_eq!(states_to_order(28, 50), Ok(30));
+    assert_eq!(states_to_order(0, 1000), Ok(0));
+    assert_eq!(states_to_order(28, 1000), Ok(56));
+    assert_eq!(states_to_order(1, 1), Ok(2));
+    assert_eq!(states_to_order(28, 0), Ok(28));
+    assert_eq!(states_to_order(29, 0), Err(14));
+    assert_eq!(states_to_order(0, 1001), Err(14));
+    assert_eq!(states_to_order(u64::MAX, u64::MAX), Err(14));
+}

@@ -1,0 +1,98 @@
+//! Operators of a wanted count, their files and gate lists, drawn from a fixed seed. What they are
+//! is said by the plain implementation.
+
+#![forbid(unsafe_code)]
+
+mod random;
+mod walk;
+
+pub use random::Random;
+pub use walk::{Walk, LETTERS};
+
+use plain::generator::GENERATORS;
+use plain::matrix::{scale, signed_permutation};
+use plain::operator::{Operator, MAX_EXPONENT, OPERATOR_BYTES};
+use plain::sheet::Sheet;
+
+/// A Clifford.
+pub fn clifford(random: &mut Random) -> Operator {
+    let mut columns = [1, 2, 3, 4, 5, 6];
+    random.shuffle(&mut columns);
+    let mut columns = columns.map(|row| if random.chance(2) { -row } else { row });
+    if !signed(columns).is_proper() {
+        columns[0] = -columns[0];
+    }
+    signed(columns)
+}
+
+/// An operator of the given count, at its least exponent: generators that each raise the exponent,
+/// between two Cliffords.
+pub fn operator(random: &mut Random, count: u8) -> Operator {
+    let mut operator = clifford(random);
+    while operator.exponent < count {
+        let generator = random.pick(&GENERATORS).operator();
+        let longer = operator.times(&generator).reduced();
+        if longer.exponent > operator.exponent {
+            operator = longer;
+        }
+    }
+    operator.times(&clifford(random))
+}
+
+/// The same operator with an exponent from its own up to the largest.
+pub fn inflated(random: &mut Random, operator: &Operator) -> Operator {
+    let room = usize::from((MAX_EXPONENT - operator.exponent) / 2);
+    let doublings = random.below(room + 1);
+    Operator {
+        matrix: scale(&operator.matrix, 1 << doublings),
+        exponent: operator.exponent + 2 * doublings as u8,
+    }
+}
+
+/// The file of an operator, at the exponent it has.
+pub fn file(operator: &Operator) -> Vec<u8> {
+    let mut file = vec![0; OPERATOR_BYTES];
+    operator.write(&mut file);
+    file
+}
+
+/// The bytes of the sheet that cutting an operator of the given count gives.
+pub fn sheet(random: &mut Random, count: u8) -> Vec<u8> {
+    let sheet = Sheet::cut(operator(random, count));
+    let mut bytes = vec![0; sheet.size()];
+    sheet.write(&mut bytes);
+    bytes
+}
+
+fn signed(columns: [i64; 6]) -> Operator {
+    Operator {
+        matrix: signed_permutation(columns),
+        exponent: 0,
+    }
+}
+
+#[cfg(test)]
+mod tests {
+    use super::*;
+
+    #[test]
+    fn operators_have_the_wanted_count() {
+        let mut random = Random::new(1);
+        for count in 0..=MAX_EXPONENT {
+            let operator = operator(&mut random, count);
+            assert_eq!(operator.exponent, count);
+            let inflated = inflated(&mut random, &operator);
+            assert_eq!(Operator::read(&file(&inflated)), Ok(operator));
+            assert_eq!(sheet(&mut random, count).len(), usize::from(count) + 6);
+        }
+    }
+
+    #[test]
+    fn walks_reach_the_wanted_exponent() {
+        let mut random = Random::new(2);
+        for exponent in 0..=MAX_EXPONENT + 1 {
+            let walk = Walk::reaching(&mut random, exponent);
+            assert_eq!(walk.exponent(), exponent);
+        }
+    }
+}
