@@ -18,7 +18,7 @@ ghost use Rattle.gate.specs.Product.{image};
 ghost use Rattle.file.specs.File.{largestExponent};
 ghost use Rattle.reduction.specs.Laws.NormalForm.{Numbers};
 ghost use Rattle.word.specs.Gate.{gateOf};
-ghost use Rattle.word.specs.Written.{Written};
+ghost use Rattle.word.specs.Written.{Written, rotationTable, partTable};
 ghost use Rattle.gate.specs.List.{leftOf, rightOf, stretch, gateList};
 ghost use Rattle.gate.specs.Reading.{multiplied, readByte, ReadAs, readFrom, reading, operatorAnswer, operatorBuffer};
 ghost use Rattle.gate.specs.Times.{paired, partners, pairEntry, signedEntry};
@@ -325,12 +325,19 @@ fn right_of(g: usize) -> [u8; 6]
 }
 
 // Writes the word of a Clifford times what is on the left of CS in generator g, and C, from `at` on; returns the place after it.
-fn write_stretch(columns: [u8; 6], g: usize, out: &mut [u8], at: usize) -> usize
-    requires { ⌜ (1 ≤ g) × (g ≤ 15) × (at + 33 ≤ length (now out)) ⌝ }
+fn write_stretch(
+    rotations: &[u8],
+    parts: &[u8],
+    columns: [u8; 6],
+    g: usize,
+    out: &mut [u8],
+    at: usize,
+) -> usize
+    requires { ⌜ (1 ≤ g) × (g ≤ 15) × (at + 33 ≤ length (now out)) × (now rotations ≡ rotationTable) × (now parts ≡ partTable) ⌝ }
     ensures { λ r. ⌜ Written (stretch columns g) at (now (out .entry)) (now (out .exit)) r ⌝ }
 {
     let product = word::compose(columns, left_of(g));
-    let next = word::write_clifford(product, out, at);
+    let next = word::write_clifford(rotations, parts, product, out, at);
     out[next] = b'C';
     next + 1
 }
@@ -340,14 +347,17 @@ pub fn write_list(count: u8, numbers: [u8; 60], columns: [u8; 6], out: &mut [u8]
     requires { ⌜ (count ≤ 60) × Numbers (take count numbers) × (areColumnBytes columns ≡ true) × (256 * (count + 1) ≤ length (now out)) ⌝ }
     ensures { λ r. ⌜ Written (gateList (take count numbers) columns) 0 (now (out .entry)) (now (out .exit)) r ⌝ }
 {
+    let rotations = word::rotation_table();
+    let parts = word::part_table();
     let mut between = [1u8, 2, 3, 4, 5, 6];
     let mut at = 0usize;
     let mut n = 0u8;
     while n < count {
         let g = numbers[n as usize] as usize;
-        at = write_stretch(between, g, out, at);
+        at = write_stretch(&rotations, &parts, between, g, out, at);
         between = right_of(g);
         n += 1;
     }
-    word::write_clifford(word::compose(between, columns), out, at)
+    let product = word::compose(between, columns);
+    word::write_clifford(&rotations, &parts, product, out, at)
 }

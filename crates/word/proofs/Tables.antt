@@ -1,34 +1,21 @@
 -- The code's two tables of words: each row holds its word of the definitions' table, and a dot for each letter that it has not.
 use mathlib.Core.Path.{_≡_, refl, sym, ap, subst, _∙_}
 use mathlib.Core.Bool.{Bool, true, false, cond, _&&_}
-use mathlib.Core.List.{List, [], _∷_, _++_, map}
+use mathlib.Core.List.{List, [], _∷_, map}
 use Prim.Native.Nat.{ℕ, zero, suc, _+_, _-_, _*_, _≤_, _<_}
 use native.Mathlib.Omega.{arith}
 use lib.Dec.{leb, ltb}
-use lib.ListN.{length, getD, replicate, length-map}
+use lib.ListN.{length, getD, length-map}
 use borrow.Author.Tests.{leb-true, ltb-true}
 use Rattle.matrix.specs.Range.{everyFrom}
 use Rattle.matrix.specs.Laws.Range.{every-sound}
 use Rattle.word.specs.declared.Gate.{Gate}
 use Rattle.word.specs.Gate.{letter}
 use Rattle.word.specs.Word.{partWords, rotationWords, onQubit}
-use Rattle.word.specs.Written.{raised, rowWord, IsRow, Appended, Written}
+use Rattle.word.specs.Written.{partTable, rotationTable, raised, rowWord, IsRow, Appended, Written}
 use Rattle.matrix.specs.List.{sameList}
 use Rattle.matrix.specs.Laws.Test.{and-left, and-right, same-list}
 use Rattle.word.specs.Laws.Written.{appended-written}
-
--- rows of n letters
-abbrev flat : ℕ → List (List Gate) → List ℕ
-flat n [] = []
-flat n (w ∷ ws) = (48 + length w) ∷ (map letter w ++ (replicate (n - length w) 46 ++ flat n ws))
-
-unfoldable pub parts : List ℕ
-unfolding partWords
-parts = flat 7 partWords
-
-unfoldable pub rotations : List ℕ
-unfolding rotationWords
-rotations = flat 6 rotationWords
 
 -- the row of the table t at `start`, raised by `case`, has the word w of at most n letters
 pub record Holds (t : List ℕ) (start case n : ℕ) (w : List Gate) : Type 0 where
@@ -80,21 +67,28 @@ holds t start case n w a l p =
     }
 
 part? : ℕ → Bool
-unfolding parts partWords row?
-part? k = row? parts (k * 8) 0 7 (getD partWords k [])
+unfolding partTable partWords row?
+part? k = row? partTable (k * 8) 0 7 (getD partWords k [])
 
-pub part-row : (k : ℕ) → k < 16 → Holds parts (k * 8) 0 7 (getD partWords k [])
-unfolding everyFrom parts part?
-part-row k h = holds parts (k * 8) 0 7 (getD partWords k []) refl (omega arith) (every-sound 16 part? refl k h)
+part-row : (k : ℕ) → k < 16 → Holds partTable (k * 8) 0 7 (getD partWords k [])
+unfolding everyFrom partTable part?
+part-row k h = holds partTable (k * 8) 0 7 (getD partWords k []) refl (omega arith) (every-sound 16 part? refl k h)
 
 abbrev caseOf : Bool → ℕ
 caseOf second = cond second 32 0
 
 rotation? : Bool → ℕ → Bool
-unfolding rotations rotationWords row?
-rotation? second k = row? rotations (k * 7) (caseOf second) 6 (onQubit second (getD rotationWords k []))
+unfolding rotationTable rotationWords row?
+rotation? second k = row? rotationTable (k * 7) (caseOf second) 6 (onQubit second (getD rotationWords k []))
 
-pub rotation-row : (second : Bool) (k : ℕ) → k < 36 → Holds rotations (k * 7) (caseOf second) 6 (onQubit second (getD rotationWords k []))
-unfolding everyFrom rotations rotation?
-rotation-row true k h = holds rotations (k * 7) 32 6 (onQubit true (getD rotationWords k [])) refl (omega arith) (every-sound 36 (rotation? true) refl k h)
-rotation-row false k h = holds rotations (k * 7) 0 6 (onQubit false (getD rotationWords k [])) refl (omega arith) (every-sound 36 (rotation? false) refl k h)
+rotation-row : (second : Bool) (k : ℕ) → k < 36 → Holds rotationTable (k * 7) (caseOf second) 6 (onQubit second (getD rotationWords k []))
+unfolding everyFrom rotationTable rotation?
+rotation-row true k h = holds rotationTable (k * 7) 32 6 (onQubit true (getD rotationWords k [])) refl (omega arith) (every-sound 36 (rotation? true) refl k h)
+rotation-row false k h = holds rotationTable (k * 7) 0 6 (onQubit false (getD rotationWords k [])) refl (omega arith) (every-sound 36 (rotation? false) refl k h)
+
+-- the same where the code has the tables
+pub part-held : (t : List ℕ) → t ≡ partTable → (k : ℕ) → k < 16 → Holds t (k * 8) 0 7 (getD partWords k [])
+part-held t e k h = subst (λ t. Holds t (k * 8) 0 7 (getD partWords k [])) (sym e) (part-row k h)
+
+pub rotation-held : (t : List ℕ) → t ≡ rotationTable → (second : Bool) (k : ℕ) → k < 36 → Holds t (k * 7) (caseOf second) 6 (onQubit second (getD rotationWords k []))
+rotation-held t e second k h = subst (λ t. Holds t (k * 7) (caseOf second) 6 (onQubit second (getD rotationWords k []))) (sym e) (rotation-row second k h)

@@ -7,10 +7,10 @@ ghost use mathlib.Core.List.{[], _∷_};
 ghost use Prim.Native.Nat.{ℕ, _+_, _*_, _<_, _≤_};
 ghost use lib.Dec.{ltb};
 ghost use lib.ListN.{length, getD};
-ghost use Rattle.clifford.specs.Columns.{rowOf, isMinus, isEven, isColumnByte, areColumnBytes, arePermutation};
+ghost use Rattle.clifford.specs.Columns.{rowOf, isMinus, isEven, isColumnByte, areColumnBytes};
 ghost use Rattle.word.specs.Gate.{letter, gateOf};
 ghost use Rattle.word.specs.Word.{negated, imageOf, composed, isLow, bit, lowBits, partWords, partInverses, localColumns, axisNumber, rotationWords, onQubit, rotationsOf, partsOf, signWord, cliffordWord};
-ghost use Rattle.word.specs.Written.{raised, rowWord, IsRow, Appended, Written};
+ghost use Rattle.word.specs.Written.{raised, rowWord, IsRow, Appended, Written, partTable, rotationTable};
 
 // A letter of a gate list (document 01, "Gate images").
 pub enum Gate {
@@ -143,6 +143,20 @@ const INVERSES: [[u8; 6]; 16] = [
     [1, 2, 3, 6, 133, 4],
     [1, 2, 3, 4, 5, 6],
 ];
+
+// The table of rotations, which a list names once for all its words.
+pub fn rotation_table() -> [u8; 252]
+    ensures { λ r. ⌜ r ≡ rotationTable ⌝ }
+{
+    ROTATIONS
+}
+
+// The table of parts.
+pub fn part_table() -> [u8; 128]
+    ensures { λ r. ⌜ r ≡ partTable ⌝ }
+{
+    PARTS
+}
 
 // The byte of −1 times a column.
 fn negate(b: u8) -> u8
@@ -289,44 +303,44 @@ fn append_row(table: &[u8], start: usize, case: u8, out: &mut [u8], at: usize) -
 }
 
 // Writes a rotation of the first or of the second half.
-fn write_rotation(row: usize, second: bool, out: &mut [u8], at: usize) -> usize
-    requires { ⌜ (row < 36) × (at + 6 ≤ length (now out)) ⌝ }
+fn write_rotation(rotations: &[u8], row: usize, second: bool, out: &mut [u8], at: usize) -> usize
+    requires { ⌜ (row < 36) × (at + 6 ≤ length (now out)) × (now rotations ≡ rotationTable) ⌝ }
     ensures { λ r. ⌜ Written (onQubit second (getD rotationWords row [])) at (now (out .entry)) (now (out .exit)) r ⌝ }
 {
     if second {
-        return append_row(&ROTATIONS, row * 7, LOWER_CASE, out, at);
+        return append_row(rotations, row * 7, LOWER_CASE, out, at);
     }
-    append_row(&ROTATIONS, row * 7, 0, out, at)
+    append_row(rotations, row * 7, 0, out, at)
 }
 
 // Writes both rotations.
-fn write_rotations(even: bool, local: [u8; 6], out: &mut [u8], at: usize) -> usize
-    requires { ⌜ at + 12 ≤ length (now out) ⌝ }
+fn write_rotations(rotations: &[u8], even: bool, local: [u8; 6], out: &mut [u8], at: usize) -> usize
+    requires { ⌜ (at + 12 ≤ length (now out)) × (now rotations ≡ rotationTable) ⌝ }
     ensures { λ r. ⌜ Written (rotationsOf even local) at (now (out .entry)) (now (out .exit)) r ⌝ }
 {
     let first = rotation_row(even, local[0], local[1]);
     let second = rotation_row(even, local[3], local[4]);
-    let next = write_rotation(first, false, out, at);
-    write_rotation(second, true, out, next)
+    let next = write_rotation(rotations, first, false, out, at);
+    write_rotation(rotations, second, true, out, next)
 }
 
 // Writes a part.
-fn write_part(part: usize, out: &mut [u8], at: usize) -> usize
-    requires { ⌜ (part < 16) × (at + 7 ≤ length (now out)) ⌝ }
+fn write_part(parts: &[u8], part: usize, out: &mut [u8], at: usize) -> usize
+    requires { ⌜ (part < 16) × (at + 7 ≤ length (now out)) × (now parts ≡ partTable) ⌝ }
     ensures { λ r. ⌜ Written (getD partWords part []) at (now (out .entry)) (now (out .exit)) r ⌝ }
 {
-    append_row(&PARTS, part * 8, 0, out, at)
+    append_row(parts, part * 8, 0, out, at)
 }
 
 // Writes both parts.
-fn write_parts(columns: [u8; 6], out: &mut [u8], at: usize) -> usize
-    requires { ⌜ at + 14 ≤ length (now out) ⌝ }
+fn write_parts(parts: &[u8], columns: [u8; 6], out: &mut [u8], at: usize) -> usize
+    requires { ⌜ (at + 14 ≤ length (now out)) × (now parts ≡ partTable) ⌝ }
     ensures { λ r. ⌜ Written (partsOf columns) at (now (out .entry)) (now (out .exit)) r ⌝ }
 {
     let first = low_bits(columns, 0);
     let second = 8 + low_bits(columns, 3);
-    let next = write_part(first, out, at);
-    write_part(second, out, next)
+    let next = write_part(parts, first, out, at);
+    write_part(parts, second, out, next)
 }
 
 // Writes the sign.
@@ -343,13 +357,19 @@ fn write_sign(even: bool, out: &mut [u8], at: usize) -> usize
 }
 
 // Writes the word of a Clifford into the buffer from `at` on and returns the place after it; the rest of the buffer stays.
-pub fn write_clifford(columns: [u8; 6], out: &mut [u8], at: usize) -> usize
-    requires { ⌜ at + 32 ≤ length (now out) ⌝ }
+pub fn write_clifford(
+    rotations: &[u8],
+    parts: &[u8],
+    columns: [u8; 6],
+    out: &mut [u8],
+    at: usize,
+) -> usize
+    requires { ⌜ (at + 32 ≤ length (now out)) × (now rotations ≡ rotationTable) × (now parts ≡ partTable) ⌝ }
     ensures { λ r. ⌜ Written (cliffordWord columns) at (now (out .entry)) (now (out .exit)) r ⌝ }
 {
     let local = local_columns(columns);
     let even = is_even(local[0], local[1], local[2]);
-    let a = write_rotations(even, local, out, at);
-    let b = write_parts(columns, out, a);
+    let a = write_rotations(rotations, even, local, out, at);
+    let b = write_parts(parts, columns, out, a);
     write_sign(even, out, b)
 }

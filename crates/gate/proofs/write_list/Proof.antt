@@ -68,10 +68,16 @@ module _ (count : ℕ) (numbers : List ℕ) (h : count ≤ 60) (l : length numbe
   number v n u = subst (λ g. (1 ≤ g) × (g ≤ 15)) (getD-take count numbers n 0 u) (v n (let e = taken in omega arith))
 
 abbrev Inv-loop : tie.InvT-loop
-Inv-loop count columns out₀ numbers between₀ at₀ n₀ out between at n = (n ≤ count) × Going (take count numbers) columns out₀ out between at n
+Inv-loop count columns out₀ numbers rotations parts between₀ at₀ n₀ out between at n = (n ≤ count) × Going (take count numbers) columns out₀ out between at n
 
 abbrev μ-loop : tie.MeasureT-loop
-μ-loop count columns out₀ numbers between₀ at₀ n₀ out between at n = count - n
+μ-loop count columns out₀ numbers rotations parts between₀ at₀ n₀ out between at n = count - n
+
+rotation-table-requires : tie.Need-rotation-table-requires Inv-loop μ-loop
+rotation-table-requires c κs = search needs
+
+part-table-requires : tie.Need-part-table-requires Inv-loop μ-loop
+part-table-requires c κs = search needs
 
 loop-holds : tie.Need-loop-holds Inv-loop μ-loop
 loop-holds c = (omega arith, start _ _ _)
@@ -85,19 +91,25 @@ array-read-g c = search needs
 cast-g-2 : tie.Need-cast-g-2 Inv-loop μ-loop
 cast-g-2 c = search needs
 
+slice-aggregate-write-stretch : tie.Need-slice-aggregate-write-stretch Inv-loop μ-loop
+slice-aggregate-write-stretch c = search needs
+
+slice-aggregate-write-stretch-2 : tie.Need-slice-aggregate-write-stretch-2 Inv-loop μ-loop
+slice-aggregate-write-stretch-2 c = search needs
+
 write-stretch-requires : tie.Need-write-stretch-requires Inv-loop μ-loop
 write-stretch-requires c κs =
-    let l = c .before .before in
-    let s = c .before .before .before .before in
+    let l = c .before .before .before .before in
+    let s = c .before .before .before .before .before .before .before .before in
     let (a, b) = number (s .args .count) (s .args .t2) (s .pre .0) (s .good .1 .0 .1 .0 .1) (s .pre .1) (l .loop .n) (omega arith) in
     let e = same-size (take (s .args .count) (s .args .t2)) (s .args .columns) (now (s .args .out)) (l .loop .out) (l .loop .between) (l .loop .at) (l .loop .n) (l .loop .inv .1) (omega (arith, s .pre .3)) in
     let p = place (take (s .args .count) (s .args .t2)) (s .args .columns) (now (s .args .out)) (l .loop .out) (l .loop .between) (l .loop .at) (l .loop .n) (l .loop .inv .1) (omega (arith, s .pre .3)) in
-    (a, b, omega (arith, s .pre .3))
+    (a, b, omega (arith, s .pre .3), c .before .before .before .before .before .before .rotation-table .ensures, c .before .before .before .before .before .part-table .ensures)
 
 right-of-requires : tie.Need-right-of-requires Inv-loop μ-loop
 right-of-requires c κs =
-    let l = c .before .before .before .before .before in
-    let s = c .before .before .before .before .before .before .before in
+    let l = c .before .before .before .before .before .before .before in
+    let s = c .before .before .before .before .before .before .before .before .before .before .before in
     number (s .args .count) (s .args .t2) (s .pre .0) (s .good .1 .0 .1 .0 .1) (s .pre .1) (l .loop .n) (omega arith)
 
 add-n : tie.Need-add-n Inv-loop μ-loop
@@ -108,40 +120,44 @@ loop-less c = search needs
 
 loop-again : tie.Need-loop-again Inv-loop μ-loop
 loop-again c =
-    let l = c .before .before .before .before .before .before in
-    let s = c .before .before .before .before .before .before .before .before in
+    let l = c .before .before .before .before .before .before .before .before in
+    let s = c .before .before .before .before .before .before .before .before .before .before .before .before in
     let t = taken (s .args .count) (s .args .t2) (s .pre .0) (s .good .1 .0 .1 .0 .1) in
     (search needs, rw (c .right-of .ensures) (turn (take (s .args .count) (s .args .t2)) (s .args .columns) (now (s .args .out)) (l .loop .out) (l .loop .between) (l .loop .at) (l .loop .n) (l .loop .inv .1) (omega (arith, s .pre .3)) _ _ _ (omega arith) (sym (getD-take (s .args .count) (s .args .t2) (l .loop .n) 0 (omega arith))) (c .before .before .before .write-stretch .ensures)))
 
 compose-requires : tie.Need-compose-requires Inv-loop μ-loop
-compose-requires c κs =
-    let s = c .before .before .before in
-    s .pre .2
+compose-requires c κs = c .before .before .before .before .before .pre .2
+
+slice-aggregate-write-clifford : tie.Need-slice-aggregate-write-clifford Inv-loop μ-loop
+slice-aggregate-write-clifford c = search needs
+
+slice-aggregate-write-clifford-2 : tie.Need-slice-aggregate-write-clifford-2 Inv-loop μ-loop
+slice-aggregate-write-clifford-2 c = search needs
 
 write-clifford-requires : tie.Need-write-clifford-requires Inv-loop μ-loop
 write-clifford-requires c κs =
-    let l = c .before .before .before in
-    let s = c .before .before .before .before .before in
+    let l = c .before .before .before .before .before in
+    let s = c .before .before .before .before .before .before .before .before .before in
     let e = same-size (take (s .args .count) (s .args .t2)) (s .args .columns) (now (s .args .out)) (l .loop .out) (l .loop .between) (l .loop .at) (l .loop .n) (l .loop .inv .1) (omega (arith, s .pre .3)) in
     let p = place (take (s .args .count) (s .args .t2)) (s .args .columns) (now (s .args .out)) (l .loop .out) (l .loop .between) (l .loop .at) (l .loop .n) (l .loop .inv .1) (omega (arith, s .pre .3)) in
-    omega (arith, s .pre .3)
+    (omega (arith, s .pre .3), c .before .before .before .before .before .before .before .rotation-table .ensures, c .before .before .before .before .before .before .part-table .ensures)
 
 same-length : tie.Need-same-length Inv-loop μ-loop
 same-length c =
-    let l = c .before .before .before .before .before .before in
-    let s = c .before .before .before .before .before .before .before .before in
+    let l = c .before .before .before .before .before .before .before .before in
+    let s = c .before .before .before .before .before .before .before .before .before .before .before .before in
     let e = same-size (take (s .args .count) (s .args .t2)) (s .args .columns) (now (s .args .out)) (l .loop .out) (l .loop .between) (l .loop .at) (l .loop .n) (l .loop .inv .1) (omega (arith, s .pre .3)) in
     let p = place (take (s .args .count) (s .args .t2)) (s .args .columns) (now (s .args .out)) (l .loop .out) (l .loop .between) (l .loop .at) (l .loop .n) (l .loop .inv .1) (omega (arith, s .pre .3)) in
-    let w = word-length (c .before .before .before .before .compose .result) in
+    let w = word-length (c .before .before .before .before .before .before .compose .result) in
     written-length (c .before .before .write-clifford .ensures) (omega (arith, s .pre .3)) ∙ e
 
 returns : tie.Need-returns Inv-loop μ-loop
 returns c =
-    let l = c .before .before .before .before .before .before in
-    let s = c .before .before .before .before .before .before .before .before in
+    let l = c .before .before .before .before .before .before .before .before in
+    let s = c .before .before .before .before .before .before .before .before .before .before .before .before in
     let t = taken (s .args .count) (s .args .t2) (s .pre .0) (s .good .1 .0 .1 .0 .1) in
     whole (take (s .args .count) (s .args .t2)) (s .args .columns) (now (s .args .out)) (l .loop .out) (l .loop .between) (l .loop .at) (l .loop .n) (l .loop .inv .1) (omega (arith, s .pre .3)) _ _ (omega arith)
-    (written-as (ap cliffordWord (c .before .before .before .before .compose .ensures)) (c .before .before .write-clifford .ensures))
+    (written-as (ap cliffordWord (c .before .before .before .before .before .before .compose .ensures)) (c .before .before .write-clifford .ensures))
 
 pub write-list-spec : {M : Type 1} → statement M
 write-list-spec =
@@ -149,16 +165,22 @@ write-list-spec =
     (tie.spec
     Inv-loop
     μ-loop
+    rotation-table-requires
+    part-table-requires
     loop-holds
     cast-g
     array-read-g
     cast-g-2
+    slice-aggregate-write-stretch
+    slice-aggregate-write-stretch-2
     write-stretch-requires
     right-of-requires
     add-n
     loop-less
     loop-again
     compose-requires
+    slice-aggregate-write-clifford
+    slice-aggregate-write-clifford-2
     write-clifford-requires
     same-length
     returns)

@@ -18,16 +18,16 @@ left-of-requires c κs = search needs
 
 compose-requires : tie.Need-compose-requires
 compose-requires c κs =
-    let s = c .before .before in
+    let s = c .before .before .before .before in
     rw (c .left-of .ensures) (columns-valid (leftOf (s .args .g)) (both-cliffords (s .args .g) (s .pre .0) (s .pre .1) .0 .permutation))
 
 write-clifford-requires : tie.Need-write-clifford-requires
-write-clifford-requires c κs = let s = c .before .before .before .before in omega (arith, s .pre .2)
+write-clifford-requires c κs = let s = c .before .before .before .before .before .before in (omega (arith, s .pre .2), s .pre .3, s .pre .4)
 
 slice-write-out : tie.Need-slice-write-out
 slice-write-out c =
     let w = c .before .before in
-    let s = c .before .before .before .before .before .before .before in
+    let s = c .before .before .before .before .before .before .before .before .before in
     let n = word-length (w .before .before .compose .result) in
     let l = written-length (w .write-clifford .ensures) (omega (arith, s .pre .2)) in
     let e = w .write-clifford .ensures .next in
@@ -36,11 +36,11 @@ slice-write-out c =
 add-result : tie.Need-add-result
 add-result c =
     let w = c .before .before in
-    let s = c .before .before .before .before .before .before .before in
+    let s = c .before .before .before .before .before .before .before .before .before in
     let n = word-length (w .before .before .compose .result) in
     let l = written-length (w .write-clifford .ensures) (omega (arith, s .pre .2)) in
     let e = w .write-clifford .ensures .next in
-    record { fits = omega (arith, s .pre .2, s .good .1 .1 .0 .0) }
+    record { fits = omega (arith, s .pre .2, s .good .1 .1 .1 .1 .0 .0) }
 
 same-length : tie.Need-same-length
 same-length c = search needs
@@ -48,7 +48,7 @@ same-length c = search needs
 returns : tie.Need-returns
 returns c =
     let w = c .before .before in
-    let s = c .before .before .before .before .before .before .before in
+    let s = c .before .before .before .before .before .before .before .before .before in
     let n = word-length (w .before .before .compose .result) in
     let l = written-length (w .write-clifford .ensures) (omega (arith, s .pre .2)) in
     let e = w .write-clifford .ensures .next in

@@ -28,12 +28,12 @@ write-part-requires-2 : tie.Need-write-part-requires-2
 write-part-requires-2 c κs =
     let w = c .before .before .before in
     let b = w .before .before in
-    let s = b .before .before .before in
+    let s = b .before .before .before .before in
     let n = part-length (b .before .low-bits .result) in
-    let f : s .args .at + length (getD partWords (b .before .low-bits .result) []) ≤ length (now (s .args .out)) = omega (arith, s .pre) in
+    let f : s .args .at + length (getD partWords (b .before .low-bits .result) []) ≤ length (now (s .args .out)) = omega (arith, s .pre .0) in
     let l = written-length (w .write-part .ensures) f in
     let e = w .write-part .ensures .next in
-    (search needs, omega (arith, s .pre))
+    (search needs, omega (arith, s .pre .0), s .pre .1)
 
 same-length : tie.Need-same-length
 same-length c = search needs
@@ -43,9 +43,9 @@ returns c =
     let v = c .before .before in
     let w = v .before .before .before .before in
     let b = w .before .before in
-    let s = b .before .before .before in
+    let s = b .before .before .before .before in
     let n = part-length (b .before .low-bits .result) in
-    let f : s .args .at + length (getD partWords (b .before .low-bits .result) []) ≤ length (now (s .args .out)) = omega (arith, s .pre) in
+    let f : s .args .at + length (getD partWords (b .before .low-bits .result) []) ≤ length (now (s .args .out)) = omega (arith, s .pre .0) in
     written-as
     (ap₂ (λ j k. getD partWords j [] ++ getD partWords (8 + k) []) (b .before .low-bits .ensures .0) (b .low-bits2 .ensures .0))
     (written-append (w .write-part .ensures) f (v .write-part2 .ensures))

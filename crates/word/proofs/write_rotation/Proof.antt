@@ -2,66 +2,54 @@
 use mathlib.Core.Bool.{true, false}
 use borrow.Author.Needs.{needs}
 use denote.Ref.{now}
-use Rattle.word.proofs.Tables.{rotations, room, written, rotation-row}
+use Rattle.word.proofs.Tables.{room, written, rotation-held}
 use Rattle.word.proofs.write_rotation.Statement.{statement}
 use Rattle.word.proofs.write_rotation.Tie as tie
-
-slice-aggregate-append-row : tie.Need-slice-aggregate-append-row
-slice-aggregate-append-row c = search needs
 
 mul-append-row : tie.Need-mul-append-row
 mul-append-row c = search needs
 
 append-row-requires : tie.Need-append-row-requires
-unfolding rotations
 append-row-requires c κs =
     let s = c .before .before .before .before in
-    let h = rotation-row true (s .args .row) (s .pre .0) in
+    let h = rotation-held (now (s .args .rotations)) (s .pre .2) true (s .args .row) (s .pre .0) in
     (h .row, room h (s .args .at) (now (s .args .out)) (s .pre .1))
 
 same-length : tie.Need-same-length
 same-length c = search needs
 
 returns : tie.Need-returns
-unfolding rotations
 returns c =
-    let t = c .before .before .before .before .before in
-    let s = t .before .before in
-    rw (t .if1 .taken) (written (rotation-row true (s .args .row) (s .pre .0)) (c .before .before .append-row .ensures))
-
-slice-aggregate-append-row-2 : tie.Need-slice-aggregate-append-row-2
-slice-aggregate-append-row-2 c = search needs
+    let t = c .before .before .before .before in
+    let s = t .before .before .before in
+    rw (t .if1 .taken) (written (rotation-held (now (s .args .rotations)) (s .pre .2) true (s .args .row) (s .pre .0)) (c .before .before .append-row .ensures))
 
 mul-append-row-2 : tie.Need-mul-append-row-2
 mul-append-row-2 c = search needs
 
 append-row-requires-2 : tie.Need-append-row-requires-2
-unfolding rotations
 append-row-requires-2 c κs =
     let s = c .before .before .before .before in
-    let h = rotation-row false (s .args .row) (s .pre .0) in
+    let h = rotation-held (now (s .args .rotations)) (s .pre .2) false (s .args .row) (s .pre .0) in
     (h .row, room h (s .args .at) (now (s .args .out)) (s .pre .1))
 
 same-length-2 : tie.Need-same-length-2
 same-length-2 c = search needs
 
 returns-2 : tie.Need-returns-2
-unfolding rotations
 returns-2 c =
-    let t = c .before .before .before .before .before in
-    let s = t .before .before in
-    rw (t .if1 .left) (written (rotation-row false (s .args .row) (s .pre .0)) (c .before .before .append-row2 .ensures))
+    let t = c .before .before .before .before in
+    let s = t .before .before .before in
+    rw (t .if1 .left) (written (rotation-held (now (s .args .rotations)) (s .pre .2) false (s .args .row) (s .pre .0)) (c .before .before .append-row2 .ensures))
 
 pub write-rotation-spec : {M : Type 1} → statement M
 write-rotation-spec =
     tie.close
     (tie.spec
-    slice-aggregate-append-row
     mul-append-row
     append-row-requires
     same-length
     returns
-    slice-aggregate-append-row-2
     mul-append-row-2
     append-row-requires-2
     same-length-2

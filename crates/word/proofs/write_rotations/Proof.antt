@@ -38,13 +38,13 @@ write-rotation-requires-2 : tie.Need-write-rotation-requires-2
 write-rotation-requires-2 c κs =
     let w = c .before .before .before in
     let b = w .before .before in
-    let s = b .before .before .before in
+    let s = b .before .before .before .before in
     let k = b .before .rotation-row .result in
     let n = rotation-length false k in
-    let f : s .args .at + length (onQubit false (getD rotationWords k [])) ≤ length (now (s .args .out)) = omega (arith, s .pre) in
+    let f : s .args .at + length (onQubit false (getD rotationWords k [])) ≤ length (now (s .args .out)) = omega (arith, s .pre .0) in
     let l = written-length (w .write-rotation .ensures) f in
     let e = w .write-rotation .ensures .next in
-    (search needs, omega (arith, s .pre))
+    (search needs, omega (arith, s .pre .0), s .pre .1)
 
 same-length : tie.Need-same-length
 same-length c = search needs
@@ -54,10 +54,10 @@ returns c =
     let v = c .before .before in
     let w = v .before .before .before .before in
     let b = w .before .before in
-    let s = b .before .before .before in
+    let s = b .before .before .before .before in
     let k = b .before .rotation-row .result in
     let n = rotation-length false k in
-    let f : s .args .at + length (onQubit false (getD rotationWords k [])) ≤ length (now (s .args .out)) = omega (arith, s .pre) in
+    let f : s .args .at + length (onQubit false (getD rotationWords k [])) ≤ length (now (s .args .out)) = omega (arith, s .pre .0) in
     written-as
     (ap₂ (λ j k. onQubit false (getD rotationWords j []) ++ onQubit true (getD rotationWords k [])) (b .before .rotation-row .ensures .0) (b .rotation-row2 .ensures .0))
     (written-append (w .write-rotation .ensures) f (v .write-rotation2 .ensures))
