@@ -3,11 +3,15 @@ use mathlib.Core.Path.{_≡_, refl, sym, ap, _∙_}
 use mathlib.Core.List.{List, [], _∷_, _++_, append-assoc, append-nil}
 use Prim.Native.Nat.{ℕ, suc, _+_, _*_, _/_, _%_, _≤_, _<_}
 use native.Mathlib.Decide.{decLt}
+use native.Mathlib.Nat.{zero-add}
 use native.Mathlib.Numerals.{add-one}
 use native.Mathlib.Omega.{arith}
 use lib.ListN.{length, getD, take, drop, length-append}
-use lib.Seq.{split-at, take-suc}
+use lib.Seq.{split-at, take-suc, length-take-le}
 use borrow.Author.Tests.{lt-ltb, le-ltb}
+use Rattle.file.specs.File.{written}
+use Rattle.word.specs.Written.{Appended}
+use Rattle.word.specs.Laws.Written.{appended-length}
 use Rattle.text.specs.Text.{digit, decimal, spaced, line}
 
 pub decimal-one : (n : ℕ) → n < 10 → decimal n ≡ digit n ∷ []
@@ -62,3 +66,16 @@ line-parts word ns = simp length-append
 
 pub line-length : (word ns : List ℕ) → length (line word ns) ≤ length word + 4 * length ns + 1
 line-length word ns = let e = line-parts word ns in let l = spaced-length ns in omega arith
+
+-- what is written lies within the buffer
+pub within : {bs old new : List ℕ} {r : ℕ} → Appended bs 0 old new r → length bs ≤ length old → (r ≤ length new) × (r ≡ length (take r new))
+within {bs} {old} {new} {r} a h =
+    let l = appended-length a (omega arith) in
+    let e = a .next in
+    let k : r ≤ length new = omega arith in
+    (k, sym (length-take-le r new k))
+
+-- what is written at the front of a buffer is appended at its start
+pub front : (old bs : List ℕ) → Appended bs 0 old (written old bs) (length bs)
+unfolding written
+front old bs = record { next = sym (zero-add (length bs)); buffer = ap (λ k. bs ++ drop k old) (sym (zero-add (length bs))) }
