@@ -1,0 +1,69 @@
+-- The text by what the call for a sheet answers, where the buffer has room for every sheet.
+use mathlib.Core.Path.{_≡_, sym, ap, ap₂, _∙_}
+use mathlib.Core.List.{List, _++_}
+use mathlib.Core.Logic.{_≢_}
+use Prim.Native.Nat.{ℕ, _+_, _≤_}
+use native.Mathlib.Decide.{ℕ-discrete}
+use native.Mathlib.Omega.{arith}
+use lib.ListN.{length, take, drop, length-append}
+use lib.Seq.{take-at}
+use borrow.Author.Tests.{eq-eqb, ne-eqb, le-ltb}
+use Rattle.file.specs.declared.Answer.{Answer}
+use Rattle.file.specs.declared.Answer.the-variants.{Count, Refused}
+use Rattle.file.specs.File.{written}
+use Rattle.operator.specs.Acceptance.{fileRefusal}
+use Rattle.operator.specs.Cutting.{fileCount}
+use Rattle.operator.specs.Promise.{fileSheet, sheetAnswer, sheetBuffer, SheetPromise}
+use Rattle.operator.specs.Laws.Promise.{count-small, sheet-length}
+use Rattle.text.specs.Text.{countLine, sheetLine, refusedLine}
+use Rattle.cut.specs.Output.{cutText}
+
+-- after a count
+pub record Counted (b new : List ℕ) (t : ℕ) : Type 0 where
+  pub small : t ≤ 28
+  pub long : t + 6 ≤ length new
+  pub text : cutText b ≡ countLine t ++ sheetLine (take (t + 6) new)
+
+module _ (b old new : List ℕ) (a : Answer) (room : 34 ≤ length old) (p : SheetPromise b old new a) where
+  module _ (z : fileRefusal b ≡ 0) where
+    fits : length (fileSheet b) ≤ length old
+    fits = let s = sheet-length b z in let k = count-small b z in omega arith
+
+    answer-is : a ≡ Count (fileCount b)
+    unfolding sheetAnswer
+    answer-is = p .answer ∙ rw (eq-eqb (fileRefusal b) 0 z, le-ltb (length old) (length (fileSheet b)) fits)
+
+    buffer-is : new ≡ fileSheet b ++ drop (length (fileSheet b)) old
+    unfolding sheetBuffer written
+    buffer-is = p .buffer ∙ rw (eq-eqb (fileRefusal b) 0 z, le-ltb (length old) (length (fileSheet b)) fits)
+
+    done : (t : ℕ) → t ≡ fileCount b → Counted b new t
+    unfolding cutText
+    done t e =
+        let s : length (fileSheet b) ≡ t + 6 = sheet-length b z ∙ ap (λ n. n + 6) (sym e) in
+        let k = count-small b z in
+        let l = ap length buffer-is ∙ length-append (fileSheet b) (drop (length (fileSheet b)) old) in
+        let f : fileSheet b ≡ take (t + 6) new = sym (ap (take (t + 6)) buffer-is ∙ take-at (fileSheet b) (drop (length (fileSheet b)) old) (t + 6) s) in
+        record {
+          small = omega arith;
+          long = omega arith;
+          text = rw (eq-eqb (fileRefusal b) 0 z) (ap₂ (λ x y. countLine x ++ sheetLine y) (sym e) f);
+        }
+
+  refusal-is : fileRefusal b ≢ 0 → a ≡ Refused (fileRefusal b)
+  unfolding sheetAnswer
+  refusal-is n = p .answer ∙ rw (ne-eqb (fileRefusal b) 0 n)
+
+  pub counted : (t : ℕ) → a ≡ Count t → Counted b new t
+  counted t e = elim (ℕ-discrete (fileRefusal b) 0) [
+    | yes z ↦ let f = answer-is z in done z t (cc)
+    | no n ↦ let f = refusal-is n in let x : _≡_ {A = ℕ} 0 1 = cc in absurd (omega arith)
+  ]
+
+  -- after a refusal
+  pub refused : (n : ℕ) → a ≡ Refused n → cutText b ≡ refusedLine n
+  unfolding cutText
+  refused n e = elim (ℕ-discrete (fileRefusal b) 0) [
+    | yes z ↦ let f = answer-is z in let x : _≡_ {A = ℕ} 0 1 = cc in absurd (omega arith)
+    | no m ↦ let f = refusal-is m in let x : fileRefusal b ≡ n = cc in rw (ne-eqb (fileRefusal b) 0 m) (ap refusedLine x)
+  ]

@@ -1,0 +1,13 @@
+-- What `cut` writes (document 01): "two lines, or the one line `refused N`".
+use mathlib.Core.Bool.{cond}
+use mathlib.Core.List.{List, _++_}
+use Prim.Native.Nat.{ℕ}
+use lib.Dec.{eqb}
+use Rattle.operator.specs.Acceptance.{fileRefusal}
+use Rattle.operator.specs.Cutting.{fileCount}
+use Rattle.operator.specs.Promise.{fileSheet}
+use Rattle.text.specs.Text.{countLine, sheetLine, refusedLine}
+
+-- for the operator file b: "The first line is t; the second has the sheet's bytes in decimal"
+unfoldable pub cutText : List ℕ → List ℕ
+cutText b = cond (eqb (fileRefusal b) 0) (countLine (fileCount b) ++ sheetLine (fileSheet b)) (refusedLine (fileRefusal b))

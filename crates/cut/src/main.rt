@@ -1,0 +1,31 @@
+// Cuts an operator: an operator file on standard input, its count and its sheet on standard output.
+
+use file::Answer;
+ghost use Rattle.io.specs.Counts.{Counts};
+ghost use Rattle.word.specs.Written.{Appended};
+ghost use Rattle.cut.specs.Output.{cutText};
+
+// The text for a file, at the front of `out`.
+fn answer(file: &[u8], out: &mut [u8; 256]) -> usize
+    ensures { λ r. ⌜ Appended (cutText (now (file .entry))) 0 (now (out .entry)) (now (out .exit)) r × Counts r (now (out .exit)) ⌝ }
+{
+    let mut sheet = [0u8; 34];
+    let answer = operator::operator_to_sheet(file, &mut sheet);
+    match answer {
+        Answer::Count(count) => {
+            let end = count as usize + 6;
+            let next = text::write_count(count, out, 0);
+            text::write_sheet(&sheet[..end], out, next)
+        }
+        Answer::Refused(refusal) => text::write_refused(refusal, out, 0),
+    }
+}
+
+// A buffer larger than a file, so that whatever is longer is seen to be.
+fn main() {
+    let mut file = io::buffer();
+    let length = io::read_full(0, &mut file);
+    let mut text = [0u8; 256];
+    let end = answer(&file[..length], &mut text);
+    io::write_all(1, &text[..end]);
+}

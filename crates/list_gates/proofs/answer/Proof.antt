@@ -1,0 +1,91 @@
+-- The text is that of the answer's case.
+use mathlib.Core.Path.{sym}
+use mathlib.Core.List.{[], _∷_, _++_}
+use native.Mathlib.Omega.{arith}
+use lib.ListN.{take, length-append}
+use lib.Seq.{length-take-le}
+use Rattle.word.specs.Laws.Written.{appended-length, appended-append}
+use Rattle.text.specs.Text.{countWord, refusedWord, countLine, gatesLine, refusedLine}
+use Rattle.text.specs.Laws.Text.{line-length, within}
+use Rattle.list_gates.specs.Laws.Output.{lettered, refused}
+use borrow.Author.Needs.{needs}
+use Rattle.list_gates.proofs.answer.Statement.{statement}
+use Rattle.list_gates.proofs.answer.Tie as tie
+
+slice-aggregate-operator-to-gates : tie.Need-slice-aggregate-operator-to-gates
+slice-aggregate-operator-to-gates c = search needs
+
+operator-to-gates-requires : tie.Need-operator-to-gates-requires
+operator-to-gates-requires c κs = search needs
+
+enum-known-answer : tie.Need-enum-known-answer
+enum-known-answer c = search needs
+
+write-count-requires : tie.Need-write-count-requires
+write-count-requires c κs = let l = line-length countWord (c .before .before .answer .given .0 .0 ∷ []) in omega arith
+
+array-share-prefix-gates : tie.Need-array-share-prefix-gates
+array-share-prefix-gates c = lettered _ _ _ _ (omega arith) (c .before .before .before .before .before .before .operator-to-gates .ensures) _ _ (c .before .before .before .answer .given .1) .long
+
+slice-aggregate-write-gates : tie.Need-slice-aggregate-write-gates
+slice-aggregate-write-gates c =
+    let k = lettered _ _ _ _ (omega arith) (c .before .before .before .before .before .before .before .operator-to-gates .ensures) _ _ (c .before .before .before .before .answer .given .1) in
+    sym (length-take-le _ _ (k .long))
+
+write-gates-requires : tie.Need-write-gates-requires
+write-gates-requires c κs =
+    let k = lettered _ _ _ _ (omega arith) (c .before .before .before .before .before .before .before .before .operator-to-gates .ensures) _ _ (c .before .before .before .before .before .answer .given .1) in
+    let t = c .before .before .before .before .before .answer .given .0 .0 in
+    let n = c .before .before .before .before .before .answer .given .0 .1 .0 in
+    let letters = take n (c .before .before .before .before .before .before .before .before .operator-to-gates .last .1 .0) in
+    let m = length-take-le n (c .before .before .before .before .before .before .before .before .operator-to-gates .last .1 .0) (k .long) in
+    let i = line-length countWord (t ∷ []) in
+    let j = length-append letters (10 ∷ []) in
+    let a = c .before .before .write-count .ensures in
+    let e = a .next in
+    let l = appended-length a (omega arith) in
+    let s = k .short in
+    omega arith
+
+enum-known-answer-2 : tie.Need-enum-known-answer-2
+enum-known-answer-2 c = search needs
+
+write-refused-requires : tie.Need-write-refused-requires
+write-refused-requires c κs = let l = line-length refusedWord (c .before .before .answer2 .given .0 .0 ∷ []) in omega arith
+
+returns : tie.Need-returns
+returns c =
+    let k = lettered _ _ _ _ (omega arith) (c .before .before .before .before .before .before .before .before .before .operator-to-gates .ensures) _ _ (c .before .before .before .before .before .before .answer .given .1) in
+    let t = c .before .before .before .before .before .before .answer .given .0 .0 in
+    let n = c .before .before .before .before .before .before .answer .given .0 .1 .0 in
+    let letters = take n (c .before .before .before .before .before .before .before .before .before .operator-to-gates .last .1 .0) in
+    let m = length-take-le n (c .before .before .before .before .before .before .before .before .before .operator-to-gates .last .1 .0) (k .long) in
+    let i = line-length countWord (t ∷ []) in
+    let j = length-append letters (10 ∷ []) in
+    let s = k .short in
+    let a = appended-append (c .before .before .before .write-count .ensures) (omega arith) (c .write-gates .ensures) in
+    let l = length-append (countLine t) (gatesLine letters) in
+    (record { text = countLine t ++ gatesLine letters; says = k .text; stands = a }, within a (omega arith))
+
+returns-2 : tie.Need-returns-2
+returns-2 c =
+    let e = refused _ _ _ _ (omega arith) (c .before .before .before .before .before .before .operator-to-gates .ensures) _ (c .before .before .before .answer2 .given .1) in
+    let l = line-length refusedWord (c .before .before .before .answer2 .given .0 .0 ∷ []) in
+    let a = c .write-refused .ensures in
+    (record { text = refusedLine (c .before .before .before .answer2 .given .0 .0); says = e; stands = a }, within a (omega arith))
+
+pub answer-spec : {M : Type 1} → statement M
+answer-spec =
+    tie.close
+    (tie.spec
+    slice-aggregate-operator-to-gates
+    operator-to-gates-requires
+    enum-known-answer
+    write-count-requires
+    array-share-prefix-gates
+    slice-aggregate-write-gates
+    write-gates-requires
+    enum-known-answer-2
+    write-refused-requires
+    returns
+    returns-2)

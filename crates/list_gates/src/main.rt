@@ -1,0 +1,29 @@
+// Lists an operator's gates: an operator file on standard input, its count and a gate list on standard output.
+
+use operator::Listed;
+ghost use Rattle.io.specs.Counts.{Counts};
+ghost use Rattle.list_gates.specs.Output.{Printed};
+
+// The text for a file, at the front of `out`.
+fn answer(file: &[u8], out: &mut [u8; 8192]) -> usize
+    ensures { λ r. ⌜ Printed (now (file .entry)) (now (out .entry)) (now (out .exit)) r × Counts r (now (out .exit)) ⌝ }
+{
+    let mut gates = [0u8; 7424];
+    let answer = operator::operator_to_gates(file, &mut gates);
+    match answer {
+        Listed::Letters { count, letters } => {
+            let next = text::write_count(count, out, 0);
+            text::write_gates(&gates[..letters], out, next)
+        }
+        Listed::Refused(refusal) => text::write_refused(refusal, out, 0),
+    }
+}
+
+// A buffer larger than a file, so that whatever is longer is seen to be.
+fn main() {
+    let mut file = io::buffer();
+    let length = io::read_full(0, &mut file);
+    let mut text = [0u8; 8192];
+    let end = answer(&file[..length], &mut text);
+    io::write_all(1, &text[..end]);
+}

@@ -1,0 +1,65 @@
+-- What is written by what the call for an operator file answers, where the buffer has room for a file.
+use mathlib.Core.Path.{_≡_, sym, ap, subst, _∙_}
+use mathlib.Core.List.{List}
+use mathlib.Core.Logic.{_≢_}
+use Prim.Native.Nat.{ℕ, _≤_}
+use native.Mathlib.Decide.{ℕ-discrete}
+use native.Mathlib.Omega.{arith}
+use lib.ListN.{length}
+use borrow.Author.Tests.{eq-eqb, ne-eqb, le-ltb}
+use Rattle.file.specs.declared.Answer.{Answer}
+use Rattle.file.specs.declared.Answer.the-variants.{Count, Refused}
+use Rattle.file.specs.File.{fileLength, fileOf, written}
+use Rattle.file.specs.Laws.File.{length-file}
+use Rattle.word.specs.Written.{Appended}
+use Rattle.sheet.specs.Sheet.{sheetRefusal, sheetLeast}
+use Rattle.sheet.specs.Promise.{operatorAnswer, operatorBuffer, OperatorPromise}
+use Rattle.text.specs.Text.{refusedLine}
+use Rattle.text.specs.Laws.Text.{front}
+use Rattle.multiply_sheet.specs.Output.{outputOf}
+
+module _ (s old new : List ℕ) (a : Answer) (room : fileLength ≤ length old) (p : OperatorPromise s old new a) where
+  module _ (z : sheetRefusal s ≡ 0) where
+    answer-is : a ≡ Count (sheetLeast s .exponent)
+    unfolding operatorAnswer
+    answer-is = p .answer ∙ rw (eq-eqb (sheetRefusal s) 0 z, le-ltb (length old) fileLength room)
+
+    output-is : outputOf s ≡ fileOf (sheetLeast s .exponent) (sheetLeast s .matrix)
+    unfolding outputOf
+    output-is = rw (eq-eqb (sheetRefusal s) 0 z)
+
+    buffer-is : new ≡ written old (outputOf s)
+    unfolding operatorBuffer outputOf
+    buffer-is = p .buffer ∙ rw (eq-eqb (sheetRefusal s) 0 z, le-ltb (length old) fileLength room)
+
+    done : (length (outputOf s) ≡ fileLength) × Appended (outputOf s) 0 old new fileLength
+    done =
+        let n = ap length output-is ∙ length-file (sheetLeast s .exponent) (sheetLeast s .matrix) in
+        (n, subst (λ x. Appended (outputOf s) 0 old x fileLength) (sym buffer-is) (subst (λ x. Appended (outputOf s) 0 old (written old (outputOf s)) x) n (front old (outputOf s))))
+
+  module _ (n : sheetRefusal s ≢ 0) where
+    refusal-is : a ≡ Refused (sheetRefusal s)
+    unfolding operatorAnswer
+    refusal-is = p .answer ∙ rw (ne-eqb (sheetRefusal s) 0 n)
+
+    line-is : refusedLine (sheetRefusal s) ≡ outputOf s
+    unfolding outputOf
+    line-is = rw (ne-eqb (sheetRefusal s) 0 n)
+
+    unchanged : new ≡ old
+    unfolding operatorBuffer
+    unchanged = p .buffer ∙ rw (ne-eqb (sheetRefusal s) 0 n)
+
+  -- after a count
+  pub filed : (k : ℕ) → a ≡ Count k → (length (outputOf s) ≡ fileLength) × Appended (outputOf s) 0 old new fileLength
+  filed k e = elim (ℕ-discrete (sheetRefusal s) 0) [
+    | yes z ↦ done z
+    | no n ↦ let f = refusal-is n in let x : _≡_ {A = ℕ} 0 1 = cc in absurd (omega arith)
+  ]
+
+  -- after a refusal
+  pub refused : (n : ℕ) → a ≡ Refused n → (refusedLine n ≡ outputOf s) × (new ≡ old)
+  refused n e = elim (ℕ-discrete (sheetRefusal s) 0) [
+    | yes z ↦ let f = answer-is z in let x : _≡_ {A = ℕ} 0 1 = cc in absurd (omega arith)
+    | no m ↦ let f = refusal-is m in let x : n ≡ sheetRefusal s = cc in (ap refusedLine x ∙ line-is m, unchanged m)
+  ]

@@ -1,0 +1,178 @@
+// The lines that the programs print, written into a lent buffer, and decimal numbers read. The contracts cite specs/Text.antt.
+//
+// A function that writes takes the place where it begins and returns the place after what it wrote; the other bytes stay.
+
+ghost use mathlib.Core.Path.{_≡_};
+ghost use mathlib.Core.List.{[], _∷_};
+ghost use Prim.Native.Nat.{_+_, _*_, _-_, _<_, _≤_};
+ghost use lib.ListN.{length};
+ghost use Rattle.word.specs.Written.{Appended};
+ghost use Rattle.text.specs.Text.{decimal, spaced, line, countLine, sheetLine, refusedLine, orderLine, gatesLine, capped, numberOf};
+
+const COUNT: [u8; 5] = *b"count";
+
+const SHEET: [u8; 5] = *b"sheet";
+
+const REFUSED: [u8; 7] = *b"refused";
+
+const ORDER: [u8; 5] = *b"order";
+
+const GATES: [u8; 6] = *b"gates ";
+
+// One byte.
+fn write_byte(b: u8, out: &mut [u8], at: usize) -> usize
+    requires { ⌜ at < length (now out) ⌝ }
+    ensures { λ r. ⌜ Appended (b ∷ []) at (now (out .entry)) (now (out .exit)) r ⌝ }
+{
+    out[at] = b;
+    at + 1
+}
+
+// Bytes as they are.
+fn write_bytes(bytes: &[u8], out: &mut [u8], at: usize) -> usize
+    requires { ⌜ at + length (now bytes) ≤ length (now out) ⌝ }
+    ensures { λ r. ⌜ Appended (now (bytes .entry)) at (now (out .entry)) (now (out .exit)) r ⌝ }
+{
+    let mut i = 0usize;
+    while i < bytes.len() {
+        out[at + i] = bytes[i];
+        i += 1;
+    }
+    at + i
+}
+
+// A number in decimal.
+pub fn write_decimal(n: u8, out: &mut [u8], at: usize) -> usize
+    requires { ⌜ at + length (decimal n) ≤ length (now out) ⌝ }
+    ensures { λ r. ⌜ Appended (decimal n) at (now (out .entry)) (now (out .exit)) r ⌝ }
+{
+    if n < 10 {
+        return write_bytes(&[b'0' + n], out, at);
+    }
+    if n < 100 {
+        return write_bytes(&[b'0' + n / 10, b'0' + n % 10], out, at);
+    }
+    write_bytes(
+        &[b'0' + n / 100, b'0' + n / 10 % 10, b'0' + n % 10],
+        out,
+        at,
+    )
+}
+
+// A space and a number in decimal.
+fn write_after_space(n: u8, out: &mut [u8], at: usize) -> usize
+    requires { ⌜ at + (1 + length (decimal n)) ≤ length (now out) ⌝ }
+    ensures { λ r. ⌜ Appended (32 ∷ decimal n) at (now (out .entry)) (now (out .exit)) r ⌝ }
+{
+    let after = write_byte(b' ', out, at);
+    write_decimal(n, out, after)
+}
+
+// Numbers in decimal, a space before each.
+fn write_spaced(numbers: &[u8], out: &mut [u8], at: usize) -> usize
+    requires { ⌜ at + length (spaced (now numbers)) ≤ length (now out) ⌝ }
+    ensures { λ r. ⌜ Appended (spaced (now (numbers .entry))) at (now (out .entry)) (now (out .exit)) r ⌝ }
+{
+    let mut next = at;
+    let mut i = 0usize;
+    while i < numbers.len() {
+        let end = write_after_space(numbers[i], out, next);
+        next = end;
+        i += 1;
+    }
+    next
+}
+
+// A line of a word and numbers.
+fn write_line(word: &[u8], numbers: &[u8], out: &mut [u8], at: usize) -> usize
+    requires { ⌜ at + length (line (now word) (now numbers)) ≤ length (now out) ⌝ }
+    ensures { λ r. ⌜ Appended (line (now (word .entry)) (now (numbers .entry))) at (now (out .entry)) (now (out .exit)) r ⌝ }
+{
+    let after = write_bytes(word, out, at);
+    let end = write_spaced(numbers, out, after);
+    write_byte(b'\n', out, end)
+}
+
+// The line of a count.
+pub fn write_count(t: u8, out: &mut [u8], at: usize) -> usize
+    requires { ⌜ at + length (countLine t) ≤ length (now out) ⌝ }
+    ensures { λ r. ⌜ Appended (countLine t) at (now (out .entry)) (now (out .exit)) r ⌝ }
+{
+    write_line(&COUNT, &[t], out, at)
+}
+
+// The line of a sheet.
+pub fn write_sheet(sheet: &[u8], out: &mut [u8], at: usize) -> usize
+    requires { ⌜ at + length (sheetLine (now sheet)) ≤ length (now out) ⌝ }
+    ensures { λ r. ⌜ Appended (sheetLine (now (sheet .entry))) at (now (out .entry)) (now (out .exit)) r ⌝ }
+{
+    write_line(&SHEET, sheet, out, at)
+}
+
+// The line of a refusal.
+pub fn write_refused(n: u8, out: &mut [u8], at: usize) -> usize
+    requires { ⌜ at + length (refusedLine n) ≤ length (now out) ⌝ }
+    ensures { λ r. ⌜ Appended (refusedLine n) at (now (out .entry)) (now (out .exit)) r ⌝ }
+{
+    write_line(&REFUSED, &[n], out, at)
+}
+
+// The line of the states to order.
+pub fn write_order(n: u8, out: &mut [u8], at: usize) -> usize
+    requires { ⌜ at + length (orderLine n) ≤ length (now out) ⌝ }
+    ensures { λ r. ⌜ Appended (orderLine n) at (now (out .entry)) (now (out .exit)) r ⌝ }
+{
+    write_line(&ORDER, &[n], out, at)
+}
+
+// The line of a gate list.
+pub fn write_gates(letters: &[u8], out: &mut [u8], at: usize) -> usize
+    requires { ⌜ at + length (gatesLine (now letters)) ≤ length (now out) ⌝ }
+    ensures { λ r. ⌜ Appended (gatesLine (now (letters .entry))) at (now (out .entry)) (now (out .exit)) r ⌝ }
+{
+    let after = write_bytes(&GATES, out, at);
+    let end = write_bytes(letters, out, after);
+    write_byte(b'\n', out, end)
+}
+
+// The largest number that is read as itself.
+pub const LARGEST_NUMBER: u64 = 1000000;
+
+// What bytes are, read as a decimal number.
+pub enum Number {
+    Is(u64),
+    Unknown,
+}
+
+// A number, or the largest that is read as itself.
+fn cap(n: u64) -> u64
+    ensures { λ r. ⌜ r ≡ capped n ⌝ }
+{
+    if LARGEST_NUMBER < n {
+        return LARGEST_NUMBER;
+    }
+    n
+}
+
+// A decimal number of any length.
+pub fn read_number(bytes: &[u8]) -> Number
+    ensures { λ r. ⌜ r ≡ numberOf (now (bytes .entry)) ⌝ }
+{
+    if bytes.len() == 0 {
+        return Number::Unknown;
+    }
+    let mut n = 0u64;
+    let mut i = 0usize;
+    while i < bytes.len() {
+        let b = bytes[i];
+        if b < b'0' {
+            return Number::Unknown;
+        }
+        if b'9' < b {
+            return Number::Unknown;
+        }
+        n = cap(10 * n + (b - b'0') as u64);
+        i += 1;
+    }
+    Number::Is(n)
+}
