@@ -36,7 +36,7 @@ pub fn image(letter: u8) -> Option<&'static Operator> {
 }
 
 /// The Clifford with the given columns, each the signed number of a row.
-const fn clifford(columns: [i64; SIZE]) -> Operator {
+pub const fn clifford(columns: [i64; SIZE]) -> Operator {
     Operator {
         matrix: signed_permutation(columns),
         exponent: 0,

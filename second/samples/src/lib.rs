@@ -9,8 +9,9 @@ mod walk;
 pub use random::Random;
 pub use walk::{Walk, LETTERS};
 
+use plain::gate;
 use plain::generator::GENERATORS;
-use plain::matrix::{scale, signed_permutation};
+use plain::matrix::scale;
 use plain::operator::{Operator, MAX_EXPONENT, OPERATOR_BYTES};
 use plain::sheet::Sheet;
 
@@ -19,10 +20,10 @@ pub fn clifford(random: &mut Random) -> Operator {
     let mut columns = [1, 2, 3, 4, 5, 6];
     random.shuffle(&mut columns);
     let mut columns = columns.map(|row| if random.chance(2) { -row } else { row });
-    if !signed(columns).is_proper() {
+    if !gate::clifford(columns).is_proper() {
         columns[0] = -columns[0];
     }
-    signed(columns)
+    gate::clifford(columns)
 }
 
 /// An operator of the given count, at its least exponent: generators that each raise the exponent,
@@ -62,13 +63,6 @@ pub fn sheet(random: &mut Random, count: u8) -> Vec<u8> {
     let mut bytes = vec![0; sheet.size()];
     sheet.write(&mut bytes);
     bytes
-}
-
-fn signed(columns: [i64; 6]) -> Operator {
-    Operator {
-        matrix: signed_permutation(columns),
-        exponent: 0,
-    }
 }
 
 #[cfg(test)]

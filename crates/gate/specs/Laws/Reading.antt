@@ -12,7 +12,7 @@ use Rattle.matrix.specs.Matrix.{entry, listed}
 use Rattle.matrix.specs.Operator.{Operator, operator, timesOperator, SameOperator, Orthogonal, LeastExponent}
 use Rattle.matrix.specs.Laws.Matrix.{product-id-r}
 use Rattle.matrix.specs.Laws.Operator.{same-operator-refl, same-operator-sym, same-operator-trans, same-operator-of, times-same, times-orthogonal, same-orthogonal, least-same}
-use Rattle.matrix.specs.Laws.Array.{operatorOf, entry-listed, length-listed, least-form, least-exponent, same-least-form}
+use Rattle.matrix.specs.Laws.Array.{operatorOf, listed-same, length-listed, least-form, least-exponent, same-least-form}
 use Rattle.file.specs.File.{largestExponent}
 use Rattle.word.specs.declared.Gate.{Gate}
 use Rattle.word.specs.declared.Letter.{Letter}
@@ -21,10 +21,6 @@ use Rattle.gate.specs.declared.Read.{Read}
 use Rattle.gate.specs.Product.{image, productOf}
 use Rattle.gate.specs.Reading.{Reading, refusal, leastOf, multiplied, readLetter, readByte}
 use Rattle.gate.specs.Laws.Product.{product-orthogonal, image-orthogonal, product-append}
-
--- an array that holds the entries stands for the same matrix
-listed-same : (A : Operator) → SameOperator A (operator (A .exponent) (entry (listed (A .matrix))))
-listed-same A = same-operator-of A (operator (A .exponent) (entry (listed (A .matrix)))) refl (λ i j hi hj. sym (entry-listed (A .matrix) i j hi hj))
 
 -- the product and its least form stand for the same matrix
 pub least-of-same : (w : List Gate) → SameOperator (productOf w) (operatorOf (leastOf w))

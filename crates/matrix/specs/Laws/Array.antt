@@ -27,7 +27,7 @@ use Rattle.matrix.specs.Laws.Ring.{var, num, _:+_, _:-_, _:*_, _:=_, _of
 use Rattle.matrix.specs.Laws.Sum.{sum-cong, δ-same, δ-other, δ-sym}
 use Rattle.matrix.specs.Laws.Matrix.{orthogonal-columns}
 use Rattle.matrix.specs.Laws.Determinant.{replaced-same, replaced-other, det-cong, det-minus-plus}
-use Rattle.matrix.specs.Laws.Operator.{same-operator-refl, same-operator-sym, same-operator-trans, same-orthogonal, reduced-least, reduced-unique, halved-same, entry-square, entry-bound}
+use Rattle.matrix.specs.Laws.Operator.{same-operator-refl, same-operator-sym, same-operator-trans, same-operator-of, same-orthogonal, reduced-least, reduced-unique, halved-same, entry-square, entry-bound}
 
 -- ---- the array's view as a matrix
 
@@ -219,6 +219,10 @@ least-small (suc (suc k)) m h = absurd (omega arith)
 
 abbrev pub operatorOf : Least → Operator
 operatorOf l = operator (l .exponent) (entry (l .matrix))
+
+-- an array that holds the entries stands for the same matrix
+pub listed-same : (A : Operator) → SameOperator A (operator (A .exponent) (entry (listed (A .matrix))))
+listed-same A = same-operator-of A (operator (A .exponent) (entry (listed (A .matrix)))) refl (λ i j hi hj. sym (entry-listed (A .matrix) i j hi hj))
 
 -- the least form of every pair stands for the same matrix and cannot be halved; of an array it is one, and it is bounded as that was
 pub record LeastForm (k : ℕ) (m : List ℤ) (l : Least) : Type 0 where

@@ -13,7 +13,7 @@ use Rattle.matrix.specs.Operator.{operator, Proper}
 use Rattle.matrix.specs.Laws.Test.{T-true, same-list-refl, and-left, and-right}
 use Rattle.matrix.specs.Laws.Range.{every-complete}
 use Rattle.matrix.specs.Laws.Operator.{same-operator-of, same-operator-sym, same-operator-trans, same-orthogonal, same-proper}
-use Rattle.matrix.specs.Laws.Array.{length-listed, least-form}
+use Rattle.matrix.specs.Laws.Array.{listed-same, length-listed, least-form}
 use Rattle.clifford.specs.Columns.{columnsMatrix, columnBytes, isColumnByte, areColumnBytes, arePermutation, isEven, Clifford}
 use Rattle.clifford.specs.Laws.Columns.{matrix-permutation, matrix-columns, permutation-sound, permutation-complete, columns-orthogonal, orthogonal-permutation, orthogonal-clifford, clifford-orthogonal}
 use Rattle.clifford.specs.Laws.Sign.{even-proper, proper-even}
@@ -28,7 +28,7 @@ use Rattle.operator.specs.Laws.Acceptance as file
 use Rattle.operator.specs.Laws.Cutting.{even-is-proper}
 use Rattle.operator.specs.Laws.Promise.{file-cutting, count-small, columns-bytes, sheet-length, sheet-numbers, sheet-columns, sheet-multiplies}
 use Rattle.sheet.specs.Sheet.{shortest, longest, isNumber, areNumbers, isClifford, sheetRefusal, sheetLeast}
-use Rattle.sheet.specs.Laws.Sheet.{Accepted, accepted, listed-same, sheet-orthogonal, sheet-same-least, sheet-exact, sheet-small, least-orthogonal-sheet}
+use Rattle.sheet.specs.Laws.Sheet.{Accepted, sheet-orthogonal, sheet-same-least, sheet-exact, sheet-small, least-orthogonal-sheet}
 
 -- ---- six column bytes
 

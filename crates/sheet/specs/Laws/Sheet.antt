@@ -15,7 +15,7 @@ use Rattle.matrix.specs.Operator.{Operator, operator, SameOperator, Orthogonal,
 use Rattle.matrix.specs.Laws.Test.{and-left, and-right, same-list}
 use Rattle.matrix.specs.Laws.Range.{every-sound}
 use Rattle.matrix.specs.Laws.Operator.{same-operator-sym, same-operator-trans, same-operator-of, times-orthogonal, same-orthogonal, least-same}
-use Rattle.matrix.specs.Laws.Array.{operatorOf, entry-listed, least-form, least-orthogonal, least-exponent}
+use Rattle.matrix.specs.Laws.Array.{operatorOf, listed-same, least-form, least-orthogonal, least-exponent}
 use Rattle.clifford.specs.Columns.{columnsMatrix, areColumnBytes, arePermutation, isEven}
 use Rattle.clifford.specs.Laws.Columns.{permutation-sound, columns-orthogonal}
 use Rattle.residue.specs.Laws.Generator.{generator-orthogonal}
@@ -80,10 +80,6 @@ accepted s e =
       even = and-right (arePermutation (sheetColumns s)) (isEven (sheetColumns s)) x;
       again = same-list _ _ y;
     }
-
--- an array that holds the entries stands for the same matrix
-pub listed-same : (A : Operator) → SameOperator A (operator (A .exponent) (entry (listed (A .matrix))))
-listed-same A = same-operator-of A (operator (A .exponent) (entry (listed (A .matrix)))) refl (λ i j hi hj. sym (entry-listed (A .matrix) i j hi hj))
 
 module _ (s : List ℕ) (a : Accepted s) where
   pub sheet-orthogonal : Orthogonal (sheetOperator s)
