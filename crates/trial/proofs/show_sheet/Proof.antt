@@ -1,0 +1,59 @@
+-- The invariant: n is within the sheet.
+use Prim.Native.Nat.{_-_, _≤_}
+use lib.ListN.{length}
+use borrow.Author.Needs.{needs}
+use Rattle.trial.proofs.show_sheet.Statement.{statement}
+use Rattle.trial.proofs.show_sheet.Tie as tie
+
+abbrev Inv-loop : tie.InvT-loop
+Inv-loop sheet n₀ t4 n = n ≤ length sheet
+
+abbrev μ-loop : tie.MeasureT-loop
+μ-loop sheet n₀ t4 n = length sheet - n
+
+slice-aggregate-show : tie.Need-slice-aggregate-show Inv-loop μ-loop
+slice-aggregate-show c = search needs
+
+show-requires : tie.Need-show-requires Inv-loop μ-loop
+show-requires c κs = search needs
+
+loop-holds : tie.Need-loop-holds Inv-loop μ-loop
+loop-holds c = search needs
+
+slice-aggregate-show-number : tie.Need-slice-aggregate-show-number Inv-loop μ-loop
+slice-aggregate-show-number c = search needs
+
+shared-slice-read-show-number : tie.Need-shared-slice-read-show-number Inv-loop μ-loop
+shared-slice-read-show-number c = search needs
+
+show-number-requires : tie.Need-show-number-requires Inv-loop μ-loop
+show-number-requires c κs = search needs
+
+add-n : tie.Need-add-n Inv-loop μ-loop
+add-n c = search needs
+
+loop-less : tie.Need-loop-less Inv-loop μ-loop
+loop-less c = search needs
+
+loop-again : tie.Need-loop-again Inv-loop μ-loop
+loop-again c = search needs
+
+returns : tie.Need-returns Inv-loop μ-loop
+returns c = search needs
+
+pub show-sheet-spec : {M : Type 1} → statement M
+show-sheet-spec =
+    tie.close
+    (tie.spec
+    Inv-loop
+    μ-loop
+    slice-aggregate-show
+    show-requires
+    loop-holds
+    slice-aggregate-show-number
+    shared-slice-read-show-number
+    show-number-requires
+    add-n
+    loop-less
+    loop-again
+    returns)
