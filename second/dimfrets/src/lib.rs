@@ -79,8 +79,7 @@ pub fn operator_to_sheet(file: &[u8], out: &mut [u8]) -> Result<u8, Refusal> {
 ///
 /// Refuses with [`Refusal::FileLength`] to [`Refusal::BufferTooShort`], in their order.
 pub fn operator_to_gates(file: &[u8], out: &mut [u8]) -> Result<Letters, Refusal> {
-    let (answer, letters) = split(run(dimfrets_operator_to_gates, file, out));
-    answer.map(|count| Letters { count, letters })
+    letters(run(dimfrets_operator_to_gates, file, out))
 }
 
 /// Multiplies a gate list, writes the operator file, 73 bytes, and answers the operator's count.
@@ -120,21 +119,22 @@ fn run(call: Call, input: &[u8], out: &mut [u8]) -> u64 {
 
 /// The count of an answer without letters.
 fn count(answer: u64) -> Result<u8, Refusal> {
-    let (answer, letters) = split(answer);
-    assert_eq!(letters, 0, "the library counted letters of no gate list");
-    answer
+    u8::try_from(answer).map_err(|_| refusal(answer))
 }
 
-/// The count or refusal in the low 16 bits, and the letters above them.
-fn split(answer: u64) -> (Result<u8, Refusal>, usize) {
-    let (low, letters) = (answer as u16, (answer >> 16) as usize);
-    if let Ok(count) = u8::try_from(low) {
-        return (Ok(count), letters);
-    }
-    assert_eq!(letters, 0, "the library refused and counted letters");
-    let refusal = Refusal::from_number(low - 256);
-    let refusal = refusal.expect("the library refused with a known number");
-    (Err(refusal), 0)
+/// The count in the low 16 bits of an answer, and the letters above them.
+fn letters(answer: u64) -> Result<Letters, Refusal> {
+    let count = u8::try_from(answer as u16).map_err(|_| refusal(answer))?;
+    let letters = (answer >> 16) as usize;
+    Ok(Letters { count, letters })
+}
+
+/// The refusal of an answer that is no count; it comes without letters.
+#[cold]
+fn refusal(answer: u64) -> Refusal {
+    let number = answer.checked_sub(256).and_then(|n| u16::try_from(n).ok());
+    let refusal = number.and_then(Refusal::from_number);
+    refusal.expect("the library refused with a known number")
 }
 
 #[cfg(test)]
@@ -142,17 +142,27 @@ mod tests {
     use super::*;
 
     #[test]
-    fn an_answer_is_split_into_its_parts() {
-        assert_eq!(split(28), (Ok(28), 0));
-        assert_eq!(split(7424 << 16 | 255), (Ok(255), 7424));
-        assert_eq!(split(256 + 1), (Err(Refusal::FileLength), 0));
-        assert_eq!(split(256 + 14), (Err(Refusal::OrderOutOfRange), 0));
+    fn an_answer_is_taken_apart() {
+        let written = Letters {
+            count: 255,
+            letters: 7424,
+        };
+        assert_eq!(letters(7424 << 16 | 255), Ok(written));
+        assert_eq!(letters(256 + 1), Err(Refusal::FileLength));
+        assert_eq!(count(28), Ok(28));
+        assert_eq!(count(256 + 14), Err(Refusal::OrderOutOfRange));
     }
 
     #[test]
     #[should_panic(expected = "known number")]
     fn a_refusal_has_a_known_number() {
-        let _ = split(256 + 15);
+        let _ = count(256 + 15);
+    }
+
+    #[test]
+    #[should_panic(expected = "known number")]
+    fn only_a_gate_list_has_letters() {
+        let _ = count(1 << 16 | 28);
     }
 
     #[test]
