@@ -33,6 +33,7 @@ fn encode_listed(answer: Listed) -> u64
 }
 
 // An operator file into a sheet.
+// Wrong, and refused, here and below: a refusal's number below 256; the answer of another call.
 #[no_mangle]
 pub extern "C" fn dimfrets_operator_to_sheet(input: &[u8], output: &mut [u8]) -> u64
     ensures { λ r. ⌜ Encodes encoded (SheetPromise (now (input .entry)) (now (output .entry)) (now (output .exit))) r ⌝ }
@@ -42,6 +43,7 @@ pub extern "C" fn dimfrets_operator_to_sheet(input: &[u8], output: &mut [u8]) ->
 }
 
 // An operator file into a gate list.
+// Wrong, and refused: the number of letters from bit 8 on; the number of letters left out.
 #[no_mangle]
 pub extern "C" fn dimfrets_operator_to_gates(input: &[u8], output: &mut [u8]) -> u64
     ensures { λ r. ⌜ Encodes encodedList (GatesPromise (now (input .entry)) (now (output .entry)) (now (output .exit))) r ⌝ }
