@@ -2,7 +2,7 @@
 
 use file::Answer;
 ghost use Rattle.io.specs.Counts.{Counts};
-ghost use Rattle.word.specs.Written.{Appended};
+ghost use Rattle.file.specs.File.{Appended};
 ghost use Rattle.cut.specs.Output.{cutText};
 
 // The text for a file, at the front of `out`.

@@ -1,10 +1,11 @@
 -- Operator files (document 01, "Operators"), and what an output buffer holds. A file is the list of its bytes.
 use mathlib.Core.Bool.{cond}
 use mathlib.Core.List.{List, _++_}
+use mathlib.Core.Path.{_≡_}
 use Prim.Native.Nat.{ℕ, zero, suc, _+_, _*_, _-_, _/_, _%_, _<_}
 use lib.Dec.{eqb, ltb}
 use lib.IntN.{ℤ, pos, negsuc, _-ℤ_}
-use lib.ListN.{length, getD, drop}
+use lib.ListN.{length, getD, take, drop}
 use mir.Syntax.{w16}
 use mir.Val.{SFits}
 use Rattle.matrix.specs.Range.{tabulate}
@@ -60,3 +61,8 @@ fileOf k m = tabulate (fileByte k m) 0 fileLength
 -- the buffer `old` with `new` at its front: "bytes past the output also hold theirs"
 unfoldable pub written : List ℕ → List ℕ → List ℕ
 written old new = new ++ drop (length new) old
+
+-- the bytes bs stand in the buffer from `at` on, and the rest is as it was; r is the place after them
+pub record Appended (bs : List ℕ) (at : ℕ) (old new : List ℕ) (r : ℕ) : Type 0 where
+  pub next : r ≡ at + length bs
+  pub buffer : new ≡ take at old ++ bs ++ drop (at + length bs) old

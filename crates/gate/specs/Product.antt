@@ -5,9 +5,9 @@ use Rattle.matrix.specs.Matrix.{δ}
 use Rattle.matrix.specs.Operator.{Operator, operator, timesOperator, SameOperator}
 use Rattle.clifford.specs.Columns.{columnsMatrix}
 use Rattle.residue.specs.Generator.{generator}
-use Rattle.word.specs.declared.Gate.{Gate}
-use Rattle.word.specs.declared.Gate.the-variants.{H1, H2, S1, S2, Cz, Cs}
-use Rattle.word.specs.Gate.{columns, isCs, number}
+use Rattle.letter.specs.declared.Gate.{Gate}
+use Rattle.letter.specs.declared.Gate.the-variants.{H1, H2, S1, S2, Cz, Cs}
+use Rattle.letter.specs.Gate.{columns, isCs, number}
 
 -- a letter's image. "C | CS | generator 3"
 unfoldable pub image : Gate → Operator

@@ -12,10 +12,10 @@ use Rattle.matrix.specs.Array.{leastForm}
 use Rattle.file.specs.declared.Answer.{Answer}
 use Rattle.file.specs.declared.Answer.the-variants.{Count, Refused}
 use Rattle.file.specs.File.{largestExponent, fileLength, fileOf, written}
-use Rattle.word.specs.declared.Gate.{Gate}
-use Rattle.word.specs.declared.Letter.{Letter}
-use Rattle.word.specs.declared.Letter.the-variants.{Is, Unknown}
-use Rattle.word.specs.Gate.{gateOf}
+use Rattle.letter.specs.declared.Gate.{Gate}
+use Rattle.letter.specs.declared.Letter.{Letter}
+use Rattle.letter.specs.declared.Letter.the-variants.{Is, Unknown}
+use Rattle.letter.specs.Gate.{gateOf}
 use Rattle.gate.specs.declared.Read.{Read}
 use Rattle.gate.specs.Product.{image, productOf}
 
@@ -27,10 +27,6 @@ largestList = 8192
 unfoldable pub leastOf : List Gate → Least
 leastOf w = leastForm (productOf w .exponent) (listed (productOf w .matrix))
 
--- a letter more, on the right
-unfoldable pub multiplied : ℕ → List ℤ → Gate → Least
-multiplied k m g = leastForm (k + image g .exponent) (listed (product 6 (entry m) (image g .matrix)))
-
 -- what reading gives: the gates, or the number of a refusal
 pub data Reading : Type 0 where
   gates : List Gate → Reading
@@ -41,13 +37,6 @@ pub data Reading : Type 0 where
 abbrev pub readLetter : List Gate → (List Gate → Reading) → Letter → Reading
 readLetter w rest Unknown = refusal 8
 readLetter w rest (Is g) = cond (ltb largestExponent (leastOf (w ++ g ∷ []) .exponent)) (refusal 9) (rest (w ++ g ∷ []))
-
--- the same of the product alone; refusal 0 is none
-abbrev pub readByte : ℕ → List ℤ → Letter → Read
-readByte k m Unknown = record { refusal = 8; exponent = k; matrix = m }
-readByte k m (Is g) =
-    cond (ltb largestExponent (multiplied k m g .exponent)) (record { refusal = 9; exponent = k; matrix = m })
-    (record { refusal = 0; exponent = multiplied k m g .exponent; matrix = multiplied k m g .matrix })
 
 -- "8 or 9 at the leftmost place that earns one"
 unfoldable pub readFrom : List Gate → List ℕ → Reading

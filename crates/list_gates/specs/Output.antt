@@ -3,9 +3,9 @@ use mathlib.Core.List.{List, _++_, map}
 use mathlib.Core.Logic.{_≢_}
 use mathlib.Core.Path.{_≡_}
 use Prim.Native.Nat.{ℕ, _≤_}
-use Rattle.word.specs.declared.Gate.{Gate}
-use Rattle.word.specs.Gate.{letter}
-use Rattle.word.specs.Written.{Appended}
+use Rattle.letter.specs.declared.Gate.{Gate}
+use Rattle.letter.specs.Gate.{letter}
+use Rattle.file.specs.File.{Appended}
 use Rattle.gate.specs.Product.{MultipliesTo, csGates}
 use Rattle.operator.specs.Acceptance.{fileOperator, fileRefusal}
 use Rattle.operator.specs.Cutting.{fileCount}

@@ -10,4 +10,5 @@ pub mod Operator
 pub mod Range
 pub mod Machine
 pub mod Array
+pub mod Right
 pub mod Rows

@@ -11,8 +11,8 @@ use Rattle.file.specs.declared.Answer.{Answer}
 use Rattle.file.specs.declared.Answer.the-variants.{Count, Refused}
 use Rattle.file.specs.File.{fileExponent, fileMatrix, written}
 use Rattle.reduction.specs.Reduction.{sheet, sheetOperator}
-use Rattle.word.specs.declared.Gate.{Gate}
-use Rattle.word.specs.Gate.{letter}
+use Rattle.letter.specs.declared.Gate.{Gate}
+use Rattle.letter.specs.Gate.{letter}
 use Rattle.gate.specs.Product.{MultipliesTo, csGates}
 use Rattle.operator.specs.declared.Listed as listed
 use Rattle.operator.specs.Acceptance.{fileOperator, fileRefusal}

@@ -118,6 +118,6 @@ pub fn operator_to_gates(bytes: &[u8], out: &mut [u8]) -> Listed
     if out.len() < 256 * (count as usize + 1) {
         return Listed::Refused(6);
     }
-    let letters = gate::write_list(count, numbers, columns, out);
+    let letters = gate_list::write_list(count, numbers, columns, out);
     Listed::Letters { count, letters }
 }

@@ -3,7 +3,7 @@
 use file::Answer;
 use text::Number;
 ghost use Rattle.io.specs.Counts.{Counts};
-ghost use Rattle.word.specs.Written.{Appended};
+ghost use Rattle.file.specs.File.{Appended};
 ghost use Rattle.order.specs.Order.{orderAnswer};
 ghost use Rattle.text.specs.Text.{numberOf};
 ghost use Rattle.order_states.specs.Output.{answerLine, orderText};

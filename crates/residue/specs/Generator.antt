@@ -1,11 +1,11 @@
 -- The fifteen generators (document 01), and which of them a matrix's odd entries call for ("The rule of cutting").
-use mathlib.Core.Bool.{Bool, cond}
+use mathlib.Core.Bool.{Bool}
 use mathlib.Core.List.{List, [], _∷_, map}
 use Prim.Native.Nat.{ℕ, _+_, _*_, _-_}
 use lib.Dec.{eqb}
 use lib.IntN.{pos, negsuc, _+ℤ_, _-ℤ_, _*ℤ_}
 use lib.ListN.{getD}
-use Rattle.matrix.specs.Range.{sum, every, firstFrom, total}
+use Rattle.matrix.specs.Range.{sum, every, firstFrom}
 use Rattle.matrix.specs.Matrix.{Matrix, δ, combined}
 
 -- "A generator splits the six rows into three pairs": the pairs of generators 1 to 15, rows counted from 1, as document 01 prints them
@@ -62,11 +62,3 @@ fits f g = every 3 (λ p. eqb (f (low g p)) (f (high g p)))
 -- "the lowest-numbered generator" that does; 16 where none does
 unfoldable pub firstFit : (ℕ → ℕ) → ℕ
 firstFit f = firstFrom (fits f) 1 15
-
--- how many rows are in row r's group
-unfoldable pub groupSize : (ℕ → ℕ) → ℕ → ℕ
-groupSize f r = total (λ s. cond (eqb (f s) (f r)) 1 0) 0 6
-
--- how many rows are in groups of n rows
-unfoldable pub inGroupsOf : ℕ → (ℕ → ℕ) → ℕ
-inGroupsOf n f = total (λ r. cond (eqb (groupSize f r) n) 1 0) 0 6

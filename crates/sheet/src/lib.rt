@@ -59,14 +59,14 @@ fn multiplied(bytes: &[u8], count: usize, columns: [u8; 6]) -> [i64; 36]
     requires { ⌜ (count ≤ 28) × (count ≤ length (now bytes)) × (every count (λ n. isNumber (getD (now bytes) n 0)) ≡ true) × (arePermutation columns ≡ true) ⌝ }
     ensures { λ r. ⌜ r ≡ listed (normalForm (take count (now (bytes .entry))) (columnsMatrix columns) .matrix) ⌝ }
 {
-    let mut m = gate::identity();
+    let mut m = times::identity();
     let mut n = 0usize;
     while n < count {
-        let next = gate::times_generator(m, bytes[n] as usize);
+        let next = times::times_generator(m, bytes[n] as usize);
         m = next;
         n += 1;
     }
-    gate::times_columns(m, columns)
+    times::times_columns(m, columns)
 }
 
 // Whether the bytes are the sheet of the first `count` generator numbers and a Clifford.

@@ -6,7 +6,7 @@ ghost use mathlib.Core.Path.{_≡_};
 ghost use mathlib.Core.List.{[], _∷_};
 ghost use Prim.Native.Nat.{_+_, _*_, _-_, _<_, _≤_};
 ghost use lib.ListN.{length};
-ghost use Rattle.word.specs.Written.{Appended};
+ghost use Rattle.file.specs.File.{Appended};
 ghost use Rattle.text.specs.Text.{decimal, spaced, line, countLine, sheetLine, refusedLine, orderLine, gatesLine, capped, numberOf};
 
 const COUNT: [u8; 5] = *b"count";

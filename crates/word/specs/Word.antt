@@ -8,22 +8,9 @@ use Prim.Native.Nat.{ℕ, _+_, _-_, _*_, _%_}
 use lib.Dec.{ltb}
 use lib.ListN.{getD}
 use Rattle.clifford.specs.Columns.{rowOf, isMinus, isEven}
-use Rattle.word.specs.declared.Gate.{Gate}
-use Rattle.word.specs.declared.Gate.the-variants.{H1, H2, S1, S2, Cz, Cs}
-
--- ---- products of signed permutations, by bytes
-
--- the byte of −1 times a column
-abbrev pub negated : ℕ → ℕ
-negated b = cond (ltb b 128) (b + 128) (b - 128)
-
--- where the matrix with columns bs takes the column of byte b
-abbrev pub imageOf : List ℕ → ℕ → ℕ
-imageOf bs b = cond (isMinus b) (negated (getD bs (rowOf b) 0)) (getD bs (rowOf b) 0)
-
--- the columns of the product
-abbrev pub composed : List ℕ → List ℕ → List ℕ
-composed bs cs = map (imageOf bs) cs
+use Rattle.letter.specs.Composition.{composed}
+use Rattle.letter.specs.declared.Gate.{Gate}
+use Rattle.letter.specs.declared.Gate.the-variants.{H1, H2, S1, S2, Cz, Cs}
 
 -- ---- the two parts that take columns across
 

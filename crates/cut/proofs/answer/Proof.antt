@@ -5,7 +5,7 @@ use Prim.Native.Nat.{_+_}
 use native.Mathlib.Omega.{arith}
 use lib.ListN.{take, length-append}
 use lib.Seq.{length-take-le}
-use Rattle.word.specs.Laws.Written.{appended-as, appended-length, appended-append}
+use Rattle.file.specs.Laws.Written.{appended-as, appended-length, appended-append}
 use Rattle.text.specs.Text.{countWord, sheetWord, refusedWord, countLine, sheetLine}
 use Rattle.text.specs.Laws.Text.{line-length, within}
 use Rattle.cut.specs.Laws.Output.{counted, refused}

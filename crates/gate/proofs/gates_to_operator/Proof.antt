@@ -1,11 +1,12 @@
 -- Each way out is a case of the definitions; the entries fit the file since the product is orthogonal with an exponent of at most 28.
-use mathlib.Core.Path.{_≡_, refl, sym, ap, _∙_, subst, ap₂}
-use Prim.Native.Nat.{ℕ, _≤_, _<_}
-use native.Mathlib.Omega.{arith}
+use mathlib.Core.Path.{_≡_, refl, sym, ap, ap₂, subst, _∙_}
 use mathlib.Core.Logic.{_≢_}
 use mathlib.Core.List.{List, []}
+use Prim.Native.Nat.{ℕ, _≤_, _<_}
+use native.Mathlib.Omega.{arith}
 use lib.ListN.{length}
 use denote.Ref.{now}
+use borrow.Author.Needs.{needs}
 use borrow.Author.Tests.{lt-ltb, le-ltb}
 use Rattle.file.specs.declared.Answer.{Answer}
 use Rattle.file.specs.declared.Answer.the-variants.{Count, Refused}
@@ -13,8 +14,8 @@ use Rattle.file.specs.File.{fileLength, fileOf, written, Short}
 use Rattle.file.specs.Laws.File.{orthogonal-short}
 use Rattle.gate.specs.declared.Read.{Read}
 use Rattle.gate.specs.Reading.{largestList, leastOf, Reading, gates, refusal, readFrom, reading, ReadAs, operatorAnswer, operatorBuffer}
-use Rattle.gate.specs.Laws.Reading.{least-of-orthogonal}
-use borrow.Author.Needs.{needs}
+use Rattle.gate.specs.Promise.{ProductPromise}
+use Rattle.gate.specs.Laws.Reading.{least-of-orthogonal, promised}
 use Rattle.gate.proofs.gates_to_operator.Statement.{statement}
 use Rattle.gate.proofs.gates_to_operator.Tie as tie
 
@@ -22,9 +23,12 @@ use Rattle.gate.proofs.gates_to_operator.Tie as tie
 abbrev Done : List ℕ → Reading → Answer → List ℕ → Type 0
 Done old x a new = (a ≡ operatorAnswer (length old) x) × (new ≡ operatorBuffer old x)
 
-too-long : (bs old : List ℕ) → largestList < length bs → Done old (reading bs) (Refused 7) old
+seven : (bs : List ℕ) → largestList < length bs → reading bs ≡ refusal 7
 unfolding reading
-too-long bs old h = rw (lt-ltb largestList (length bs) h) (refl, refl)
+seven bs h = rw (lt-ltb largestList (length bs) h)
+
+too-long : (bs old : List ℕ) → largestList < length bs → ProductPromise bs old old (Refused 7)
+too-long bs old h = let e = sym (seven bs h) in promised bs old (ap (operatorAnswer (length old)) e) (ap (operatorBuffer old) e)
 
 not-too-long : (bs : List ℕ) → length bs ≤ largestList → reading bs ≡ readFrom [] bs
 unfolding reading
@@ -47,9 +51,9 @@ module _ (old : List ℕ) (r : Read) where
   short (gates w) p z = rw (p .2) (orthogonal-short (leastOf w .exponent) (leastOf w .matrix) (p .3) (least-of-orthogonal w))
   short (refusal n) p z = absurd (omega arith)
 
--- of the list that is read
-of-list : (bs old : List ℕ) {a : Answer} {new : List ℕ} → length bs ≤ largestList → Done old (readFrom [] bs) a new → Done old (reading bs) a new
-of-list bs old {a} {new} h d = subst (λ x. Done old x a new) (sym (not-too-long bs h)) d
+-- of a list that is not too long
+of-list : (bs old : List ℕ) {a : Answer} {new : List ℕ} → length bs ≤ largestList → Done old (readFrom [] bs) a new → ProductPromise bs old new a
+of-list bs old {a} {new} h d = let (p, q) = subst (λ x. Done old x a new) (sym (not-too-long bs h)) d in promised bs old p q
 
 returns : tie.Need-returns
 returns c = too-long _ _ (c .if1 .taken)

@@ -23,9 +23,9 @@ use Rattle.matrix.specs.Laws.Array.{everywhere-sound}
 use Rattle.clifford.specs.Columns.{columnsMatrix, arePermutation}
 use Rattle.clifford.specs.Laws.Columns.{permutation-sound, columns-orthogonal}
 use Rattle.residue.specs.Laws.Generator.{generator-orthogonal, generator-product, turned-det}
-use Rattle.word.specs.declared.Gate.{Gate}
-use Rattle.word.specs.declared.Gate.the-variants.{H1, H2, S1, S2, Cz, Cs}
-use Rattle.word.specs.Gate.{columns, isCs}
+use Rattle.letter.specs.declared.Gate.{Gate}
+use Rattle.letter.specs.declared.Gate.the-variants.{H1, H2, S1, S2, Cz, Cs}
+use Rattle.letter.specs.Gate.{columns, isCs}
 use Rattle.gate.specs.Product.{image, productOf, MultipliesTo, csGates}
 
 -- ---- the exponent

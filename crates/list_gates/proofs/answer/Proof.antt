@@ -4,7 +4,7 @@ use mathlib.Core.List.{[], _∷_, _++_}
 use native.Mathlib.Omega.{arith}
 use lib.ListN.{take, length-append}
 use lib.Seq.{length-take-le}
-use Rattle.word.specs.Laws.Written.{appended-length, appended-append}
+use Rattle.file.specs.Laws.Written.{appended-length, appended-append}
 use Rattle.text.specs.Text.{countWord, refusedWord, countLine, gatesLine, refusedLine}
 use Rattle.text.specs.Laws.Text.{line-length, within}
 use Rattle.list_gates.specs.Laws.Output.{lettered, refused}

@@ -7,8 +7,8 @@ use native.Mathlib.Omega.{arith}
 use lib.ListN.{length, take, drop, length-append, length-map}
 use lib.Seq.{take-at}
 use Rattle.file.specs.File.{written}
-use Rattle.word.specs.declared.Gate.{Gate}
-use Rattle.word.specs.Gate.{letter}
+use Rattle.letter.specs.declared.Gate.{Gate}
+use Rattle.letter.specs.Gate.{letter}
 use Rattle.operator.specs.declared.Listed.{Listed}
 use Rattle.operator.specs.declared.Listed.the-variants.{Letters, Refused}
 use Rattle.operator.specs.Acceptance.{fileRefusal}

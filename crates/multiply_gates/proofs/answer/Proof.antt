@@ -5,7 +5,7 @@ use native.Mathlib.Omega.{arith}
 use denote.Ref.{now}
 use lib.ListN.{length}
 use Rattle.gate.specs.Reading.{reading}
-use Rattle.word.specs.Laws.Written.{appended-as}
+use Rattle.file.specs.Laws.Written.{appended-as}
 use Rattle.text.specs.Text.{refusedWord}
 use Rattle.text.specs.Laws.Text.{line-length, within}
 use Rattle.multiply_gates.specs.Laws.Output.{filed, refused}

@@ -6,9 +6,8 @@ use native.Mathlib.Omega.{arith}
 use lib.ListN.{length}
 use borrow.Author.Tests.{le-ltb}
 use Rattle.file.specs.declared.Answer.the-variants.{Count, Refused}
-use Rattle.file.specs.File.{fileLength, fileOf, written}
+use Rattle.file.specs.File.{fileLength, fileOf, written, Appended}
 use Rattle.file.specs.Laws.File.{length-file}
-use Rattle.word.specs.Written.{Appended}
 use Rattle.gate.specs.Reading.{Reading, gates, refusal, leastOf, operatorAnswer, operatorBuffer}
 use Rattle.text.specs.Text.{refusedLine}
 use Rattle.text.specs.Laws.Text.{front}

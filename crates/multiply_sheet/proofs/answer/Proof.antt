@@ -3,7 +3,7 @@ use mathlib.Core.Path.{ap}
 use mathlib.Core.List.{[], _∷_}
 use native.Mathlib.Omega.{arith}
 use lib.ListN.{length}
-use Rattle.word.specs.Laws.Written.{appended-as}
+use Rattle.file.specs.Laws.Written.{appended-as}
 use Rattle.text.specs.Text.{refusedWord}
 use Rattle.text.specs.Laws.Text.{line-length, within}
 use Rattle.multiply_sheet.specs.Laws.Output.{filed, refused}

@@ -9,9 +9,8 @@ use lib.ListN.{length}
 use borrow.Author.Tests.{eq-eqb, ne-eqb, le-ltb}
 use Rattle.file.specs.declared.Answer.{Answer}
 use Rattle.file.specs.declared.Answer.the-variants.{Count, Refused}
-use Rattle.file.specs.File.{fileLength, fileOf, written}
+use Rattle.file.specs.File.{fileLength, fileOf, written, Appended}
 use Rattle.file.specs.Laws.File.{length-file}
-use Rattle.word.specs.Written.{Appended}
 use Rattle.sheet.specs.Sheet.{sheetRefusal, sheetLeast}
 use Rattle.sheet.specs.Promise.{operatorAnswer, operatorBuffer, OperatorPromise}
 use Rattle.text.specs.Text.{refusedLine}

@@ -4,10 +4,10 @@ use mathlib.Core.List.{List}
 use Prim.Native.Nat.{ℕ, _≤_}
 use lib.ListN.{length}
 use Rattle.file.specs.File.{largestExponent, fileLength, fileExponent, fileMatrix}
-use Rattle.word.specs.declared.Gate.{Gate}
+use Rattle.letter.specs.declared.Gate.{Gate}
 use Rattle.gate.specs.Product.{MultipliesTo}
 use Rattle.gate.specs.Laws.Product.{multiplied-orthogonal, multiplied-proper}
-use Rattle.gate.specs.Laws.List.{listOf, list-of}
+use Rattle.gate_list.specs.Laws.List.{listOf, list-of}
 use Rattle.operator.specs.Acceptance.{fileOperator, fileRefusal}
 use Rattle.operator.specs.Laws.Acceptance.{accepted, entries-complete, in-form}
 

@@ -20,11 +20,11 @@ use Rattle.clifford.specs.Columns.{columnsMatrix, columnBytes, areColumnBytes}
 use Rattle.clifford.specs.Laws.Columns.{matrix-permutation, matrix-columns, permutation-complete}
 use Rattle.reduction.specs.Reduction.{remaining, sheet, normalForm, sheetNumbers, sheetColumns, sheetOperator}
 use Rattle.reduction.specs.Laws.NormalForm.{Cutting, cutting, normal-form-same, length-sheet}
-use Rattle.word.specs.Gate.{letter}
-use Rattle.word.specs.Written.{Written}
-use Rattle.word.specs.Laws.Bytes.{columns-valid}
-use Rattle.gate.specs.List.{gateList}
-use Rattle.gate.specs.Laws.List.{listOf, list-of}
+use Rattle.letter.specs.Gate.{letter}
+use Rattle.letter.specs.Written.{Written}
+use Rattle.letter.specs.Laws.Bytes.{columns-valid}
+use Rattle.gate_list.specs.List.{gateList}
+use Rattle.gate_list.specs.Laws.List.{listOf, list-of}
 use Rattle.operator.specs.declared.Listed as listed
 use Rattle.operator.specs.declared.Cut.{Cut}
 use Rattle.operator.specs.Acceptance.{fileOperator, fileRefusal}

@@ -2,7 +2,7 @@
 use mathlib.Core.Path.{refl, sym, ap₂, _∙_}
 use native.Mathlib.Omega.{arith}
 use denote.Ref.{now}
-use Rattle.word.specs.Laws.Written.{appended-as, appended-none}
+use Rattle.file.specs.Laws.Written.{appended-as, appended-none}
 use Rattle.order_states.specs.Output.{orderText}
 use borrow.Author.Needs.{needs}
 use Rattle.order_states.proofs.answer.Statement.{statement}

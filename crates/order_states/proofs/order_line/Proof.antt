@@ -2,7 +2,7 @@
 use mathlib.Core.Path.{sym, ap, _∙_}
 use mathlib.Core.List.{[], _∷_}
 use native.Mathlib.Omega.{arith}
-use Rattle.word.specs.Laws.Written.{appended-as}
+use Rattle.file.specs.Laws.Written.{appended-as}
 use Rattle.text.specs.Text.{orderWord, refusedWord}
 use Rattle.text.specs.Laws.Text.{line-length, within}
 use Rattle.order_states.specs.Output.{answerLine}

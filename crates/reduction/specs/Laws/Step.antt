@@ -24,7 +24,7 @@ use Rattle.matrix.specs.Laws.Operator.{same-operator-of, same-orthogonal, times
 use Rattle.matrix.specs.Laws.Array.{equal-masks, half-sums-other, half-sums-exact, columns-of}
 use Rattle.residue.specs.Generator.{low, high, generator, turnedPair, turned, fits, firstFit}
 use Rattle.residue.specs.Laws.Generator.{low-not-high, pairs-apart, turned-pair-cong, generator-orthogonal, generator-product, turned-det}
-use Rattle.residue.specs.Laws.Residue.{grouped-rows}
+use Rattle.grouping.specs.Laws.Residue.{grouped-rows}
 use Rattle.reduction.specs.Reduction.{cut}
 
 module _ (g : ℕ) (l : 1 ≤ g) (u : g ≤ 15) (M : Matrix) (f : fits (rowMask M) g ≡ true) where

@@ -1,6 +1,6 @@
 -- The space and the digits, one after the other.
 use native.Mathlib.Omega.{arith}
-use Rattle.word.specs.Laws.Written.{appended-append}
+use Rattle.file.specs.Laws.Written.{appended-append}
 use borrow.Author.Needs.{needs}
 use Rattle.text.proofs.write_after_space.Statement.{statement}
 use Rattle.text.proofs.write_after_space.Tie as tie

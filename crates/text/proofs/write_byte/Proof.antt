@@ -1,6 +1,6 @@
 -- One byte is set.
 use denote.Ref.{now}
-use Rattle.word.specs.Laws.Written.{appended-one}
+use Rattle.file.specs.Laws.Written.{appended-one}
 use borrow.Author.Needs.{needs}
 use Rattle.text.proofs.write_byte.Statement.{statement}
 use Rattle.text.proofs.write_byte.Tie as tie

@@ -7,8 +7,8 @@ use native.Mathlib.Omega.{arith}
 use denote.Ref.{now}
 use lib.ListN.{length, getD, take, set, length-set}
 use lib.Seq.{take-suc, take-length, length-take-le}
-use Rattle.word.specs.Written.{Appended}
-use Rattle.word.specs.Laws.Written.{appended-as, appended-none, appended-one, appended-append}
+use Rattle.file.specs.File.{Appended}
+use Rattle.file.specs.Laws.Written.{appended-as, appended-none, appended-one, appended-append}
 use borrow.Author.Needs.{needs}
 use Rattle.text.proofs.write_bytes.Statement.{statement}
 use Rattle.text.proofs.write_bytes.Tie as tie

@@ -2,7 +2,7 @@
 use mathlib.Core.Path.{sym, ap}
 use native.Mathlib.Omega.{arith}
 use lib.ListN.{length}
-use Rattle.word.specs.Laws.Written.{appended-as}
+use Rattle.file.specs.Laws.Written.{appended-as}
 use Rattle.text.specs.Laws.Text.{decimal-one, decimal-two, decimal-three}
 use borrow.Author.Needs.{needs}
 use Rattle.text.proofs.write_decimal.Statement.{statement}

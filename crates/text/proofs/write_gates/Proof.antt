@@ -3,7 +3,7 @@ use native.Mathlib.Omega.{arith}
 use mathlib.Core.List.{[], _∷_}
 use denote.Ref.{now}
 use lib.ListN.{length-append}
-use Rattle.word.specs.Laws.Written.{appended-length, appended-append}
+use Rattle.file.specs.Laws.Written.{appended-length, appended-append}
 use borrow.Author.Needs.{needs}
 use Rattle.text.proofs.write_gates.Statement.{statement}
 use Rattle.text.proofs.write_gates.Tie as tie

@@ -2,7 +2,7 @@
 use native.Mathlib.Omega.{arith}
 use denote.Ref.{now}
 use lib.ListN.{length-append}
-use Rattle.word.specs.Laws.Written.{appended-length, appended-append}
+use Rattle.file.specs.Laws.Written.{appended-length, appended-append}
 use Rattle.text.specs.Text.{spaced}
 use Rattle.text.specs.Laws.Text.{line-parts}
 use borrow.Author.Needs.{needs}

@@ -6,8 +6,8 @@ use native.Mathlib.Omega.{arith}
 use denote.Ref.{now}
 use lib.ListN.{length, take}
 use lib.Seq.{take-length}
-use Rattle.word.specs.Written.{Appended}
-use Rattle.word.specs.Laws.Written.{appended-as, appended-none, appended-length, appended-append}
+use Rattle.file.specs.File.{Appended}
+use Rattle.file.specs.Laws.Written.{appended-as, appended-none, appended-length, appended-append}
 use Rattle.text.specs.Text.{spaced}
 use Rattle.text.specs.Laws.Text.{spaced-next, spaced-room}
 use borrow.Author.Needs.{needs}

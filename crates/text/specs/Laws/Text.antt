@@ -9,9 +9,8 @@ use native.Mathlib.Omega.{arith}
 use lib.ListN.{length, getD, take, drop, length-append}
 use lib.Seq.{split-at, take-suc, length-take-le}
 use borrow.Author.Tests.{lt-ltb, le-ltb}
-use Rattle.file.specs.File.{written}
-use Rattle.word.specs.Written.{Appended}
-use Rattle.word.specs.Laws.Written.{appended-length}
+use Rattle.file.specs.File.{written, Appended}
+use Rattle.file.specs.Laws.Written.{appended-length}
 use Rattle.text.specs.Text.{digit, decimal, spaced, line}
 
 pub decimal-one : (n : ℕ) → n < 10 → decimal n ≡ digit n ∷ []

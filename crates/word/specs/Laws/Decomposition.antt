@@ -7,12 +7,13 @@ use native.Mathlib.Omega.{arith}
 use lib.Dec.{eqb}
 use lib.ListN.{getD}
 use Rattle.clifford.specs.Columns.{different, inversions, isEven}
-use Rattle.word.specs.declared.Gate.{Gate}
-use Rattle.word.specs.Word.{bit, composed, firstPart, secondPart, partWords, partInverses, localColumns, rotationOf, onSecond, isEvenHalf, rotationsOf, unsignedWord, signWord, cliffordWord}
-use Rattle.word.specs.Laws.Signed.{Axis, e1, e2, e3, e4, e5, e6, Column, col, Perm, perm, turned, apply, times, toByte, bytes, evaluated, times-assoc, times-unit, unit-times, evaluated-append, turnedAll, times-minus, minus-commutes, turned-all-twice}
+use Rattle.letter.specs.declared.Gate.{Gate}
+use Rattle.word.specs.Word.{bit, firstPart, secondPart, partWords, partInverses, localColumns, rotationOf, onSecond, isEvenHalf, rotationsOf, unsignedWord, signWord, cliffordWord}
+use Rattle.letter.specs.Composition.{composed}
+use Rattle.letter.specs.Laws.Signed.{Axis, e1, e2, e3, e4, e5, e6, Column, col, Perm, perm, turned, apply, times, toByte, bytes, evaluated, times-assoc, times-unit, unit-times, evaluated-append, turnedAll, times-minus, minus-commutes, turned-all-twice}
 use Rattle.matrix.specs.Laws.Test.{and-left, and-right}
-use Rattle.word.specs.Laws.Bytes.{axisOf, signOf, row-byte, minus-byte, composed-bytes, bit-le}
-use Rattle.word.specs.Laws.Finite.{axes, signs, rows, minusSigns, axes-times, inverse, inverse-bytes, inverse-part, minus-signs, lowAxis, lowAxes, firstAxes, secondAxes, localAxes, isLowHalf, isHighHalf, inversions3, Split, split, isEven3, lowRotation, highRotation, low-rotation, high-rotation}
+use Rattle.letter.specs.Laws.Bytes.{axisOf, signOf, row-byte, composed-bytes}
+use Rattle.word.specs.Laws.Finite.{minus-byte, bit-le, axes, signs, rows, minusSigns, axes-times, inverse, inverse-bytes, inverse-part, minus-signs, lowAxis, lowAxes, firstAxes, secondAxes, localAxes, isLowHalf, isHighHalf, inversions3, Split, split, isEven3, lowRotation, highRotation, low-rotation, high-rotation}
 
 -- ---- the columns that are left
 

@@ -3,22 +3,31 @@
 use mathlib.Core.Path.{_≡_, refl, sym, ap, fun-ext, subst, _∙_}
 use mathlib.Core.Bool.{Bool, true, false, not, _&&_}
 use mathlib.Core.List.{List, [], _∷_, map}
-use Prim.Native.Nat.{ℕ, _+_, _*_, _%_, _<_}
+use Prim.Native.Nat.{ℕ, _+_, _*_, _%_, _<_, _≤_}
+use native.Mathlib.Omega.{arith}
 use lib.Dec.{eqb, ltb}
 use lib.ListN.{getD}
 use borrow.Author.Tests.{eqb-true}
 use Rattle.matrix.specs.Range.{every, everyFrom}
 use Rattle.matrix.specs.Laws.Range.{every-sound}
-use Rattle.clifford.specs.Columns.{rowOf, areColumnBytes, different, inversions, minuses, isEven}
+use Rattle.clifford.specs.Columns.{rowOf, isMinus, areColumnBytes, different, inversions, minuses, isEven}
 use Rattle.word.specs.Word.{bit, partWords, partInverses, rotationWords, rotationOf, onSecond}
-use Rattle.word.specs.Laws.Signed.{Axis, e1, e2, e3, e4, e5, e6, Column, col, Perm, perm, image, turned, apply, times, unit, rowNumber, toByte, bytes, fromBytes, evaluated, image-times}
+use Rattle.letter.specs.Laws.Signed.{Axis, e1, e2, e3, e4, e5, e6, Column, col, Perm, perm, image, turned, apply, times, unit, rowNumber, toByte, bytes, fromBytes, evaluated, image-times}
 use Rattle.matrix.specs.List.{sameList}
 use Rattle.matrix.specs.Laws.Test.{and-left, and-right, same-list}
-use Rattle.word.specs.Laws.Every.{implied, everyBool, everyAxis, everyColumn, every-column, everySigns, every-signs, bySix, by-six, arrangements, every-arrangement}
-use Rattle.word.specs.Laws.Bytes.{axisOf, signOf, row-byte, minus-byte, from-bytes, bytes-valid}
+use Rattle.letter.specs.Laws.Every.{implied, everyBool, everyAxis, everyColumn, every-column, everySigns, every-signs, bySix, by-six, arrangements, every-arrangement}
+use Rattle.letter.specs.Laws.Bytes.{axisOf, signOf, row-byte, from-bytes, bytes-valid}
 
 same-perm : (g h : Perm) → sameList (bytes g) (bytes h) ≡ true → g ≡ h
 same-perm g h t = sym (from-bytes g) ∙ ap fromBytes (same-list (bytes g) (bytes h) t) ∙ from-bytes h
+
+pub bit-le : (t : Bool) → bit t ≤ 1
+bit-le true = omega arith
+bit-le false = omega arith
+
+pub minus-byte : (c : Column) → bit (isMinus (toByte c)) ≡ bit (not (signOf c))
+unfolding everyColumn everyAxis everyBool
+minus-byte c = eqb-true _ _ (every-column (λ c. eqb (bit (isMinus (toByte c))) (bit (not (signOf c)))) refl c)
 
 -- ---- the axes and the signs of a permutation
 

@@ -9,16 +9,16 @@ use lib.ListN.{getD, length, length-append}
 use borrow.Author.Tests.{eqb-true, leb-true}
 use Rattle.matrix.specs.Matrix.{Same}
 use Rattle.clifford.specs.Columns.{columnsMatrix, areColumnBytes, different, inversions, isEven, arePermutation}
-use Rattle.word.specs.declared.Gate.{Gate}
-use Rattle.word.specs.Gate.{wordMatrix, isCz, isCs, number}
+use Rattle.letter.specs.declared.Gate.{Gate}
+use Rattle.letter.specs.Gate.{wordMatrix, isCz, isCs, number}
 use Rattle.word.specs.Word.{bit, isLow, partWords, rotationWords, localColumns, onSecond, onQubit, rotationsOf, partsOf, halvesEven, unsignedWord, signWord, cliffordWord, crossings}
-use Rattle.word.specs.Laws.Signed.{Perm, bytes, fromBytes, evaluated}
+use Rattle.letter.specs.Laws.Signed.{Perm, bytes, fromBytes, evaluated}
 use Rattle.matrix.specs.Laws.Test.{and-left, and-right}
-use Rattle.word.specs.Laws.Every.{everyBool, every-bool}
-use Rattle.word.specs.Laws.Bytes.{bytes-from}
+use Rattle.letter.specs.Laws.Every.{everyBool, every-bool}
+use Rattle.letter.specs.Laws.Bytes.{bytes-from}
 use Rattle.word.specs.Laws.Finite.{rows-bytes, minuses-bytes}
 use Rattle.word.specs.Laws.Decomposition.{Proper, decomposes}
-use Rattle.word.specs.Laws.Matrix.{evaluated-matrix}
+use Rattle.letter.specs.Laws.Matrix.{evaluated-matrix}
 
 -- ---- letters of a word
 

@@ -1,0 +1,14 @@
+-- Groups of rows (document 01, "The rule of cutting"): "Rows with equal bits group as 2, 2, 2 or as 2 and 4". f r is the number by which row
+-- r groups: its odd entries as six bits.
+use mathlib.Core.Bool.{cond}
+use Prim.Native.Nat.{ℕ}
+use lib.Dec.{eqb}
+use Rattle.matrix.specs.Range.{total}
+
+-- how many rows are in row r's group
+unfoldable pub groupSize : (ℕ → ℕ) → ℕ → ℕ
+groupSize f r = total (λ s. cond (eqb (f s) (f r)) 1 0) 0 6
+
+-- how many rows are in groups of n rows
+unfoldable pub inGroupsOf : ℕ → (ℕ → ℕ) → ℕ
+inGroupsOf n f = total (λ r. cond (eqb (groupSize f r) n) 1 0) 0 6

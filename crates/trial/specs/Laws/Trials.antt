@@ -1,0 +1,21 @@
+-- Every case of the table passes.
+use mathlib.Core.Path.{_≡_, refl}
+use mathlib.Core.Bool.{true}
+use lib.IntN.{pow}
+use Rattle.matrix.specs.Integer.{parity}
+use Rattle.matrix.specs.Range.{sum, everyFrom, firstFrom, tabulate, bits, total}
+use Rattle.matrix.specs.Matrix.{δ, replaced, listed}
+use Rattle.matrix.specs.Determinant.{skip, det}
+use Rattle.matrix.specs.Array.{isOrthogonal, isWithin, rowMask, allEven, leastForm}
+use Rattle.file.specs.File.{fileMatrix, fileOf}
+use Rattle.clifford.specs.Columns.{isEven, arePermutation, columnByte}
+use Rattle.residue.specs.Generator.{table, place, generator, fits, firstFit}
+use Rattle.reduction.specs.Reduction.{generators, remainder, sheet, normalForm}
+use Rattle.gate.specs.Product.{image, productOf}
+use Rattle.operator.specs.Acceptance.{fileRefusal}
+use Rattle.sheet.specs.Sheet.{sheetRefusal}
+use Rattle.trial.specs.Trials.{trials, allPass}
+
+pub trials-pass : allPass trials ≡ true
+unfolding trials parity sum everyFrom firstFrom tabulate bits total δ replaced listed skip det pow lib.IntN.one isOrthogonal isWithin rowMask allEven leastForm fileMatrix fileOf isEven arePermutation columnByte table place generator fits firstFit generators remainder sheet normalForm image productOf fileRefusal sheetRefusal
+trials-pass = refl

@@ -1,0 +1,54 @@
+-- Document 01's trial cuts that are marked to be proved of the definitions: a table of cases, and the test that each passes.
+use mathlib.Core.Bool.{Bool, true, _&&_}
+use mathlib.Core.List.{List, [], _∷_}
+use Prim.Native.Nat.{ℕ}
+use lib.Dec.{eqb}
+use lib.IntN.{pos, negsuc, _*ℤ_}
+use Rattle.matrix.specs.List.{sameList}
+use Rattle.matrix.specs.Matrix.{Matrix, δ, replaced, listed}
+use Rattle.file.specs.File.{fileOf}
+use Rattle.reduction.specs.Reduction.{sheetOf}
+use Rattle.letter.specs.declared.Gate.{Gate}
+use Rattle.letter.specs.declared.Gate.the-variants.{H1, Cz, Cs}
+use Rattle.gate.specs.Product.{productOf}
+use Rattle.operator.specs.Acceptance.{fileRefusal}
+use Rattle.operator.specs.Promise.{fileSheet}
+use Rattle.sheet.specs.Sheet.{sheetRefusal}
+
+pub data Trial : Type 0 where
+  -- the file of this exponent and matrix is accepted and has this sheet
+  cuts : ℕ → Matrix → List ℕ → Trial
+  -- the file of this exponent and matrix earns this refusal
+  fileRefused : ℕ → Matrix → ℕ → Trial
+  -- these bytes, read as a sheet, earn this refusal
+  sheetRefused : List ℕ → ℕ → Trial
+  -- this list multiplies to an operator with this sheet
+  multiplies : List Gate → List ℕ → Trial
+
+abbrev pub passes : Trial → Bool
+passes (cuts k M s) = eqb (fileRefusal (fileOf k (listed M))) 0 && sameList (fileSheet (fileOf k (listed M))) s
+passes (fileRefused k M n) = eqb (fileRefusal (fileOf k (listed M))) n
+passes (sheetRefused s n) = eqb (sheetRefusal s) n
+passes (multiplies w s) = sameList (sheetOf (productOf w)) s
+
+abbrev pub allPass : List Trial → Bool
+allPass [] = true
+allPass (t ∷ ts) = passes t && allPass ts
+
+-- the identity; twice the identity, k 2; the two sheets; the identity with −1 in row 1; `C`; `CC` and `Z`; `HH`, which is the identity; `ZZ`,
+-- which is its negative; eight `C`; `CHC`
+unfoldable pub trials : List Trial
+trials =
+    cuts 0 δ (1 ∷ 2 ∷ 3 ∷ 4 ∷ 5 ∷ 6 ∷ []) ∷
+    cuts 2 (λ r c. pos 2 *ℤ δ r c) (1 ∷ 2 ∷ 3 ∷ 4 ∷ 5 ∷ 6 ∷ []) ∷
+    sheetRefused (13 ∷ 3 ∷ 1 ∷ 2 ∷ 3 ∷ 4 ∷ 5 ∷ 6 ∷ []) 13 ∷
+    sheetRefused (3 ∷ 3 ∷ 1 ∷ 2 ∷ 3 ∷ 4 ∷ 5 ∷ 6 ∷ []) 13 ∷
+    fileRefused 0 (replaced 0 (λ c. negsuc 0 *ℤ δ 0 c) δ) 5 ∷
+    multiplies (Cs ∷ []) (3 ∷ 1 ∷ 2 ∷ 3 ∷ 4 ∷ 5 ∷ 6 ∷ []) ∷
+    multiplies (Cs ∷ Cs ∷ []) (2 ∷ 129 ∷ 6 ∷ 5 ∷ 132 ∷ 131 ∷ []) ∷
+    multiplies (Cz ∷ []) (2 ∷ 129 ∷ 6 ∷ 5 ∷ 132 ∷ 131 ∷ []) ∷
+    multiplies (H1 ∷ H1 ∷ []) (1 ∷ 2 ∷ 3 ∷ 4 ∷ 5 ∷ 6 ∷ []) ∷
+    multiplies (Cz ∷ Cz ∷ []) (129 ∷ 130 ∷ 131 ∷ 132 ∷ 133 ∷ 134 ∷ []) ∷
+    multiplies (Cs ∷ Cs ∷ Cs ∷ Cs ∷ Cs ∷ Cs ∷ Cs ∷ Cs ∷ []) (1 ∷ 2 ∷ 3 ∷ 4 ∷ 5 ∷ 6 ∷ []) ∷
+    multiplies (Cs ∷ H1 ∷ Cs ∷ []) (3 ∷ 13 ∷ 3 ∷ 130 ∷ 1 ∷ 4 ∷ 5 ∷ 6 ∷ []) ∷
+    []
