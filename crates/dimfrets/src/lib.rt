@@ -4,8 +4,7 @@ use file::Answer;
 use operator::Listed;
 ghost use mathlib.Core.Path.{_≡_};
 ghost use Prim.Native.Nat.{_^_, _<_};
-ghost use lib.ListN.{length};
-ghost use Rattle.gate.specs.Reading.{reading, operatorAnswer, operatorBuffer};
+ghost use Rattle.gate.specs.Promise.{ProductPromise};
 ghost use Rattle.operator.specs.Promise.{SheetPromise, GatesPromise};
 ghost use Rattle.order.specs.Order.{orderAnswer};
 ghost use Rattle.sheet.specs.Promise.{OperatorPromise};
@@ -55,8 +54,7 @@ pub extern "C" fn dimfrets_operator_to_gates(input: &[u8], output: &mut [u8]) ->
 // A gate list into an operator file.
 #[no_mangle]
 pub extern "C" fn dimfrets_gates_to_operator(input: &[u8], output: &mut [u8]) -> u64
-    ensures { λ r. ⌜ r ≡ encoded (operatorAnswer (length (now (output .entry))) (reading (now (input .entry)))) ⌝ }
-    ensures { λ r. ⌜ now (output .exit) ≡ operatorBuffer (now (output .entry)) (reading (now (input .entry))) ⌝ }
+    ensures { λ r. ⌜ Encodes encoded (ProductPromise (now (input .entry)) (now (output .entry)) (now (output .exit))) r ⌝ }
 {
     let answer = gate::gates_to_operator(input, output);
     encode_answer(answer)

@@ -1,5 +1,5 @@
 -- Theorems, a file for each subject; a file cites only those above it.
 pub mod Acceptance
 pub mod Cutting
-pub mod Promise
 pub mod Exactly
+pub mod Promise

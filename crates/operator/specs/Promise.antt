@@ -1,7 +1,7 @@
 -- What the calls from an operator file to a sheet and to a gate list promise.
 use mathlib.Core.Bool.{cond}
 use mathlib.Core.List.{List, map}
-use mathlib.Core.Logic.{_≢_}
+use mathlib.Core.Logic.{_≢_, _⊎_}
 use mathlib.Core.Path.{_≡_}
 use Prim.Native.Nat.{ℕ, _+_, _*_, _≤_, _<_}
 use lib.Dec.{eqb, ltb}
@@ -9,7 +9,7 @@ use lib.ListN.{length}
 use Rattle.matrix.specs.Operator.{SameOperator, LeastExponent}
 use Rattle.file.specs.declared.Answer.{Answer}
 use Rattle.file.specs.declared.Answer.the-variants.{Count, Refused}
-use Rattle.file.specs.File.{fileExponent, fileMatrix, written}
+use Rattle.file.specs.File.{largestExponent, fileLength, fileExponent, fileMatrix, written}
 use Rattle.reduction.specs.Reduction.{sheet, sheetOperator}
 use Rattle.letter.specs.declared.Gate.{Gate}
 use Rattle.letter.specs.Gate.{letter}
@@ -17,6 +17,31 @@ use Rattle.gate.specs.Product.{MultipliesTo, csGates}
 use Rattle.operator.specs.declared.Listed as listed
 use Rattle.operator.specs.Acceptance.{fileOperator, fileRefusal}
 use Rattle.operator.specs.Cutting.{fileCount}
+
+-- ---- refused for its entries
+
+-- the number of an answer's refusal, 0 where there is none
+abbrev pub refusalOf : Answer → ℕ
+refusalOf (Count t) = 0
+refusalOf (Refused n) = n
+
+abbrev pub listedRefusal : listed.Listed → ℕ
+listedRefusal (listed.the-variants.Letters t n) = 0
+listedRefusal (listed.the-variants.Refused n) = n
+
+-- "a file is refused for its entries if the answer is 3, 4 or 5"
+abbrev pub ForEntries : ℕ → Type 0
+ForEntries n = (n ≡ 3) ⊎ (n ≡ 4) ⊎ (n ≡ 5)
+
+-- no gate list multiplies to the file's operator
+abbrev pub NoList : List ℕ → Type 0
+NoList b = (w : List Gate) → MultipliesTo w (fileOperator b) → ⊥
+
+-- demand 3, where n is the refusal answered: "An operator file of the right length with an exponent in range is refused for its entries exactly
+-- when no gate list over these gates, of whatever length, multiplies to its operator"
+pub record ExactlyRefused (b : List ℕ) (n : ℕ) : Type 0 where
+  pub refused : length b ≡ fileLength → fileExponent b ≤ largestExponent → ForEntries n → NoList b
+  pub no-list : length b ≡ fileLength → fileExponent b ≤ largestExponent → NoList b → ForEntries n
 
 -- ---- sheets
 
@@ -39,6 +64,7 @@ pub record SheetPromise (b old new : List ℕ) (a : Answer) : Type 0 where
   pub multiplies : fileRefusal b ≡ 0 → SameOperator (sheetOperator (fileSheet b)) (fileOperator b)
   -- demand 3: the count is the least exponent
   pub least : fileRefusal b ≡ 0 → LeastExponent (fileOperator b) (fileCount b)
+  pub exactly : ExactlyRefused b (refusalOf a)
 
 -- ---- gate lists
 
@@ -61,3 +87,4 @@ pub record GatesPromise (b old new : List ℕ) (a : listed.Listed) : Type 0 wher
   -- 6: "shorter than 256 × (t + 1) for a gate list"
   pub no-room : fileRefusal b ≡ 0 → length old < 256 * (fileCount b + 1) → (a ≡ listed.the-variants.Refused 6) × (new ≡ old)
   pub handed : fileRefusal b ≡ 0 → 256 * (fileCount b + 1) ≤ length old → (w : List Gate) × Handed b old new a w
+  pub exactly : ExactlyRefused b (listedRefusal a)

@@ -10,12 +10,12 @@ use denote.Ref.{now}
 use Rattle.reduction.specs.Laws.NormalForm.{Numbers}
 use Rattle.letter.specs.declared.Gate.{Gate}
 use Rattle.letter.specs.declared.Gate.the-variants.{Cs}
-use Rattle.letter.specs.Composition.{composed}
+use Rattle.letter.specs.Composition.{composed, identityColumns}
 use Rattle.word.specs.Word.{cliffordWord}
 use Rattle.letter.specs.Written.{Written}
 use Rattle.word.specs.Laws.Word.{word-length}
 use Rattle.letter.specs.Laws.Written.{written-as, written-none, written-length, written-append}
-use Rattle.gate_list.specs.List.{leftOf, rightOf, stretch, stretches, identityColumns, gateList}
+use Rattle.gate_list.specs.List.{leftOf, rightOf, stretch, stretches, gateList}
 use borrow.Author.Needs.{needs}
 use Rattle.gate_list.proofs.write_list.Statement.{statement}
 use Rattle.gate_list.proofs.write_list.Tie as tie

@@ -1,7 +1,7 @@
 -- An accepted file's normal form, as the code holds it, and what its sheet and its gate list are.
 use mathlib.Core.Path.{_≡_, refl, sym, ap, ap₂, subst, _∙_}
 use mathlib.Core.Bool.{true}
-use mathlib.Core.Logic.{_≢_}
+use mathlib.Core.Logic.{_≢_, ⊎-elim}
 use mathlib.Core.List.{List, _++_, map}
 use Prim.Native.Nat.{ℕ, _+_, _*_, _-_, _<_, _≤_}
 use native.Mathlib.Nat.{zero-add}
@@ -29,8 +29,9 @@ use Rattle.operator.specs.declared.Listed as listed
 use Rattle.operator.specs.declared.Cut.{Cut}
 use Rattle.operator.specs.Acceptance.{fileOperator, fileRefusal}
 use Rattle.operator.specs.Cutting.{fileCount, fileNumbers, fileColumns, CutOf}
-use Rattle.operator.specs.Promise.{fileSheet, sheetAnswer, sheetBuffer, SheetPromise, GatesPromise}
+use Rattle.operator.specs.Promise.{refusalOf, ExactlyRefused, fileSheet, sheetAnswer, sheetBuffer, SheetPromise, GatesPromise}
 use Rattle.operator.specs.Laws.Acceptance.{accepted}
+use Rattle.operator.specs.Laws.Exactly.{exactly-refused, exactly-accepted}
 
 module _ (b : List ℕ) (z : fileRefusal b ≡ 0) where
   pub file-cutting : Cutting (fileExponent b) (fileMatrix b)
@@ -95,8 +96,15 @@ ready b r c e =
 -- ---- the ways out of the two calls, where the code holds r
 
 module _ (b old : List ℕ) (r : Cut) (c : CutOf b r) where
-  sheet-as : {new : List ℕ} {a : Answer} → a ≡ sheetAnswer b (length old) → new ≡ sheetBuffer b old → SheetPromise b old new a
-  sheet-as p q = record { answer = p; buffer = q; multiplies = λ z. sheet-multiplies b z; least = λ z. file-cutting b z .least }
+  sheet-as : {new : List ℕ} {a : Answer} → a ≡ sheetAnswer b (length old) → new ≡ sheetBuffer b old → ExactlyRefused b (refusalOf a) → SheetPromise b old new a
+  sheet-as p q x = record { answer = p; buffer = q; multiplies = λ z. sheet-multiplies b z; least = λ z. file-cutting b z .least; exactly = x }
+
+  -- an accepted file's answers: no room, and none
+  six : fileRefusal b ≡ 0 → ExactlyRefused b 6
+  six z = exactly-accepted b 6 z (λ f. ⊎-elim (λ x. omega arith) (λ y. ⊎-elim (λ x. omega arith) (λ x. omega arith) y) f)
+
+  none : fileRefusal b ≡ 0 → ExactlyRefused b 0
+  none z = exactly-refused b 0 (sym z)
 
   still-refused : r .refusal ≢ 0 → fileRefusal b ≢ 0
   still-refused h z = h (c .refusal ∙ z)
@@ -105,7 +113,7 @@ module _ (b old : List ℕ) (r : Cut) (c : CutOf b r) where
   unfolding sheetAnswer sheetBuffer
   sheet-refused h =
       let t = ne-eqb (fileRefusal b) 0 (still-refused h) in
-      sheet-as (rw t (ap Refused (c .refusal))) (rw t)
+      sheet-as (rw t (ap Refused (c .refusal))) (rw t) (exactly-refused b (r .refusal) (c .refusal))
 
   pub sheet-no-room : r .refusal ≡ 0 → length old < r .count + 6 → SheetPromise b old old (Refused 6)
   unfolding sheetAnswer sheetBuffer
@@ -113,7 +121,7 @@ module _ (b old : List ℕ) (r : Cut) (c : CutOf b r) where
       let y = ready b r c e in
       let t = eq-eqb (fileRefusal b) 0 (y .accepted) in
       let l = lt-ltb (length old) (length (fileSheet b)) (rw (y .long) h) in
-      sheet-as (rw (t, l)) (rw (t, l))
+      sheet-as (rw (t, l)) (rw (t, l)) (six (y .accepted))
 
   pub sheet-done : (new : List ℕ) → r .refusal ≡ 0 → r .count + 6 ≤ length old → new ≡ written old (take (r .count) (r .numbers) ++ r .columns) → SheetPromise b old new (Count (r .count))
   unfolding sheetAnswer sheetBuffer
@@ -121,13 +129,14 @@ module _ (b old : List ℕ) (r : Cut) (c : CutOf b r) where
       let y = ready b r c e in
       let t = eq-eqb (fileRefusal b) 0 (y .accepted) in
       let l = le-ltb (length old) (length (fileSheet b)) (rw (y .long) h) in
-      sheet-as (rw (t, l) (ap Count (y .count))) (rw (t, l) (n ∙ ap (written old) (y .bytes)))
+      sheet-as (rw (t, l) (ap Count (y .count))) (rw (t, l) (n ∙ ap (written old) (y .bytes))) (none (y .accepted))
 
   pub gates-refused : r .refusal ≢ 0 → GatesPromise b old old (listed.the-variants.Refused (r .refusal))
   gates-refused h = record {
     refused = λ n. (ap listed.the-variants.Refused (c .refusal), refl);
     no-room = λ z l. absurd (still-refused h z);
     handed = λ z l. absurd (still-refused h z);
+    exactly = exactly-refused b (r .refusal) (c .refusal);
   }
 
   pub gates-no-room : r .refusal ≡ 0 → length old < 256 * (r .count + 1) → GatesPromise b old old (listed.the-variants.Refused 6)
@@ -138,6 +147,7 @@ module _ (b old : List ℕ) (r : Cut) (c : CutOf b r) where
         refused = λ n. absurd (n (y .accepted));
         no-room = λ z l. (refl, refl);
         handed = λ z l. absurd (omega arith);
+        exactly = six (y .accepted);
       }
 
   pub gates-done : (new : List ℕ) (n : ℕ) → r .refusal ≡ 0 → 256 * (r .count + 1) ≤ length old → Written (gateList (take (r .count) (r .numbers)) (r .columns)) 0 old new n
@@ -165,4 +175,5 @@ module _ (b old : List ℕ) (r : Cut) (c : CutOf b r) where
             short = g .short;
           },
         );
+        exactly = none (y .accepted);
       }
