@@ -1,2 +1,4 @@
--- Theorems.
+-- Theorems, a file for each subject; a file cites only those above it.
 pub mod List
+pub mod Code
+pub mod Listing

@@ -1,34 +1,248 @@
-// The gate list of a normal form, written. The contracts cite specs/List.antt.
+// The gate list of a normal form, written. The contracts cite specs/List.antt and specs/Code.antt.
 
 ghost use mathlib.Core.Path.{_≡_};
 ghost use mathlib.Core.Bool.{true};
+ghost use mathlib.Core.List.{List};
 ghost use Prim.Native.Nat.{_+_, _*_, _≤_};
 ghost use lib.ListN.{length, take};
 ghost use Rattle.clifford.specs.Columns.{areColumnBytes};
 ghost use Rattle.reduction.specs.Laws.NormalForm.{Numbers};
+ghost use Rattle.letter.specs.declared.Gate.{Gate};
 ghost use Rattle.letter.specs.Written.{Written};
-ghost use Rattle.word_table.specs.Tables.{rotationTable, partTable};
-ghost use Rattle.gate_list.specs.List.{leftOf, rightOf, stretch, gateList};
+ghost use Rattle.gate_list.specs.List.{rightOf, stretch, gateList};
+ghost use Rattle.gate_list.specs.Code.{letterAt, encoded, stretchCodes};
 
-// Each generator is a Clifford, CS and a Clifford: the columns of those on the left and on the right, in the order of the numbers.
-const LEFTS: [[u8; 6]; 15] = [
-    [1, 2, 3, 5, 6, 4],
-    [1, 2, 3, 132, 6, 5],
-    [1, 2, 3, 4, 5, 6],
-    [1, 3, 2, 6, 5, 4],
-    [1, 3, 2, 4, 6, 5],
-    [1, 3, 2, 132, 5, 6],
-    [2, 3, 1, 5, 6, 4],
-    [1, 4, 3, 130, 5, 6],
-    [1, 4, 2, 3, 5, 6],
-    [3, 2, 1, 4, 6, 5],
-    [1, 5, 3, 2, 4, 6],
-    [1, 5, 2, 4, 3, 6],
-    [2, 3, 1, 4, 5, 6],
-    [1, 6, 3, 4, 2, 5],
-    [1, 6, 3, 2, 5, 4],
+// The stretch before generator h, where g is the generator before it, with the C of h: number 15 × (g − 1) + (h − 1). Its letters are octal
+// digits, the first one lowest: 1 to 6 for H, h, S, s, Z, C.
+const STRETCHES: [u64; 225] = [
+    0o6,
+    0o6442,
+    0o624,
+    0o6554244233131,
+    0o6554424433131,
+    0o655424233131,
+    0o63331,
+    0o65523154433131,
+    0o65523154433,
+    0o6554424433133,
+    0o62315244131,
+    0o642315244,
+    0o6243331,
+    0o65542315442433131,
+    0o62315242131,
+    0o624,
+    0o6444,
+    0o64442,
+    0o6554424233131,
+    0o6554244233131,
+    0o655424433131,
+    0o6243331,
+    0o6552315442433131,
+    0o6552315442433,
+    0o6554244233133,
+    0o6231524424131,
+    0o64231524424,
+    0o644423331,
+    0o655423154233131,
+    0o62315244131,
+    0o64442,
+    0o644424,
+    0o6,
+    0o6554424433131,
+    0o6554424233131,
+    0o655244233131,
+    0o644423331,
+    0o65523154233131,
+    0o65523154233,
+    0o6554424233133,
+    0o62315242131,
+    0o642315242,
+    0o63331,
+    0o655423154433131,
+    0o6231524424131,
+    0o65544244233131,
+    0o65524433131,
+    0o655442433131,
+    0o6444,
+    0o62,
+    0o6444242,
+    0o65544244233133,
+    0o623152442,
+    0o623152442131,
+    0o623331,
+    0o655231544233,
+    0o6554231544233131,
+    0o655442433133,
+    0o64231524,
+    0o65523154424233,
+    0o6554424433131,
+    0o655244233131,
+    0o6554424233131,
+    0o64442,
+    0o6,
+    0o644424,
+    0o6554424433133,
+    0o62315244,
+    0o62315244131,
+    0o63331,
+    0o65523154433,
+    0o655423154433131,
+    0o6554424233133,
+    0o642315242,
+    0o6552315442433,
+    0o6554424233131,
+    0o655424433131,
+    0o6554244233131,
+    0o624,
+    0o64442,
+    0o6444,
+    0o6554424233133,
+    0o62315242,
+    0o62315242131,
+    0o644423331,
+    0o65523154233,
+    0o655423154233131,
+    0o6554244233133,
+    0o64231524424,
+    0o65523154433,
+    0o613,
+    0o644213,
+    0o62413,
+    0o6554244233133,
+    0o6554424433133,
+    0o655424233133,
+    0o6,
+    0o65523154433133,
+    0o6552315443313,
+    0o6554424431331,
+    0o62315244133,
+    0o64231524413,
+    0o624,
+    0o65542315442433133,
+    0o62315242133,
+    0o6315444242131,
+    0o6552315442433131,
+    0o62315242131,
+    0o6544424333131,
+    0o62524333131,
+    0o65525442423131,
+    0o6551542423313,
+    0o6444,
+    0o65525442423,
+    0o655231544243313,
+    0o655423154233131,
+    0o6252152441331,
+    0o655215442423313,
+    0o6231524424131,
+    0o6315442442131,
+    0o65442333131,
+    0o65525442443131,
+    0o6254442333131,
+    0o6315244242131,
+    0o62315244131,
+    0o65523154233131,
+    0o65531523313,
+    0o6254442333,
+    0o6,
+    0o655215442443313,
+    0o65525215442433313,
+    0o62315242131,
+    0o6552315423313,
+    0o625215244241331,
+    0o655452154331331,
+    0o655442443313,
+    0o65524423313,
+    0o655442423313,
+    0o644421,
+    0o61,
+    0o6444241,
+    0o65544244331331,
+    0o623152441,
+    0o6231524413,
+    0o6333,
+    0o655231544331,
+    0o65542315443313,
+    0o65544242331331,
+    0o6423152421,
+    0o65523154424331,
+    0o62315244131,
+    0o631544244131,
+    0o655423154233131,
+    0o655425442443131,
+    0o65442333131,
+    0o65542542443131,
+    0o655215442443313,
+    0o6554231542433131,
+    0o65525215442433313,
+    0o65531523313,
+    0o6,
+    0o64254442333,
+    0o64215444213,
+    0o6315442442131,
+    0o655423154433131,
+    0o6252333131,
+    0o65442333131,
+    0o65542542443131,
+    0o6554231544233131,
+    0o631544244131,
+    0o655423154233131,
+    0o65523154423313,
+    0o62521524131,
+    0o655423154424233131,
+    0o655152443313,
+    0o6552542443,
+    0o6444,
+    0o64231524424213,
+    0o65552154331331,
+    0o65525215433313,
+    0o6444213,
+    0o64442413,
+    0o613,
+    0o6554424433133,
+    0o6554424233133,
+    0o655244233133,
+    0o64442,
+    0o65523154233133,
+    0o6552315423313,
+    0o6554424231331,
+    0o62315242133,
+    0o64231524213,
+    0o6,
+    0o655423154433133,
+    0o6231524424133,
+    0o6554231544233131,
+    0o655423154233131,
+    0o631544244131,
+    0o6252333131,
+    0o65542542443131,
+    0o65442333131,
+    0o64215213,
+    0o63154424131,
+    0o655452154242331331,
+    0o64231524424213,
+    0o631524424131,
+    0o65552154331331,
+    0o655152443313,
+    0o6444,
+    0o6242,
+    0o655423154233131,
+    0o65542315233131,
+    0o6315244242131,
+    0o6254442333131,
+    0o655425442443131,
+    0o6542333131,
+    0o64215444213,
+    0o631542442131,
+    0o655452154331331,
+    0o64231524413,
+    0o6315444242131,
+    0o65552154424331331,
+    0o6551542443313,
+    0o624,
+    0o6,
 ];
 
+// The columns of the Clifford on the right of CS in each generator.
 const RIGHTS: [[u8; 6]; 15] = [
     [1, 2, 3, 6, 4, 5],
     [1, 2, 3, 5, 6, 4],
@@ -47,12 +261,11 @@ const RIGHTS: [[u8; 6]; 15] = [
     [1, 4, 3, 6, 5, 2],
 ];
 
-// The columns of the Clifford on the left of CS in generator g.
-fn left_of(g: usize) -> [u8; 6]
-    requires { ⌜ (1 ≤ g) × (g ≤ 15) ⌝ }
-    ensures { λ r. ⌜ r ≡ leftOf g ⌝ }
+// The table of stretches, which a list names once for all of them.
+fn stretch_codes() -> [u64; 225]
+    ensures { λ r. ⌜ r ≡ stretchCodes ⌝ }
 {
-    LEFTS[g - 1]
+    STRETCHES
 }
 
 // The columns of the Clifford on the right of CS in generator g.
@@ -63,40 +276,68 @@ fn right_of(g: usize) -> [u8; 6]
     RIGHTS[g - 1]
 }
 
-// Writes the word of a Clifford times what is on the left of CS in generator g, and C, from `at` on; returns the place after it.
-fn write_stretch(
-    rotations: &[u8],
-    parts: &[u8],
-    columns: [u8; 6],
-    g: usize,
-    out: &mut [u8],
-    at: usize,
-) -> usize
-    requires { ⌜ (1 ≤ g) × (g ≤ 15) × (at + 33 ≤ length (now out)) × (now rotations ≡ rotationTable) × (now parts ≡ partTable) ⌝ }
-    ensures { λ r. ⌜ Written (stretch columns g) at (now (out .entry)) (now (out .exit)) r ⌝ }
+// The letter of an octal digit.
+fn letter_at(digit: u64) -> u8
+    ensures { λ r. ⌜ r ≡ letterAt digit ⌝ }
 {
-    let product = letter::compose(columns, left_of(g));
-    let next = word_table::write_clifford(rotations, parts, product, out, at);
-    out[next] = b'C';
-    next + 1
+    match digit {
+        1 => b'H',
+        2 => b'h',
+        3 => b'S',
+        4 => b's',
+        5 => b'Z',
+        6 => b'C',
+        _ => 0,
+    }
 }
+
+// The most letters of a stretch in the table.
+const LONGEST: usize = 18;
+
+// Writes the letters of a number from `at` on and returns the place after them; the rest of the buffer stays.
+fn write_code(code: u64, out: &mut [u8], at: usize) -> usize
+    requires { ⌜ at + 18 ≤ length (now out) ⌝ }
+    ensures { λ r. ⌜ ((w : List Gate) → code ≡ encoded w → length w ≤ 18 → Written w at (now (out .entry)) (now (out .exit)) r) ⌝ }
+{
+    let mut rest = code;
+    let mut i = 0usize;
+    while i < LONGEST {
+        if rest == 0 {
+            return at + i;
+        }
+        out[at + i] = letter_at(rest % 8);
+        rest = rest / 8;
+        i += 1;
+    }
+    at + i
+}
+
+// Writes the stretch between generators g and h, and the C of h.
+fn write_stretch(codes: &[u64; 225], g: usize, h: usize, out: &mut [u8], at: usize) -> usize
+    requires { ⌜ (1 ≤ g) × (g ≤ 15) × (1 ≤ h) × (h ≤ 15) × (at + 18 ≤ length (now out)) × (now codes ≡ stretchCodes) ⌝ }
+    ensures { λ r. ⌜ Written (stretch (rightOf g) h) at (now (out .entry)) (now (out .exit)) r ⌝ }
+{
+    write_code(codes[(g - 1) * 15 + (h - 1)], out, at)
+}
+
+// The number of CS itself: a generator between two identities, so that the first stretch of a list may stand behind it.
+const CS: usize = 3;
 
 // Writes the gate list of the first `count` generator numbers and a Clifford to the front of `out`; returns the number of its letters.
 pub fn write_list(count: u8, numbers: [u8; 60], columns: [u8; 6], out: &mut [u8]) -> usize
     requires { ⌜ (count ≤ 60) × Numbers (take count numbers) × (areColumnBytes columns ≡ true) × (256 * (count + 1) ≤ length (now out)) ⌝ }
     ensures { λ r. ⌜ Written (gateList (take count numbers) columns) 0 (now (out .entry)) (now (out .exit)) r ⌝ }
 {
-    let rotations = word_table::rotation_table();
-    let parts = word_table::part_table();
-    let mut between = [1u8, 2, 3, 4, 5, 6];
+    let codes = stretch_codes();
+    let mut before = CS;
     let mut at = 0usize;
     let mut n = 0u8;
     while n < count {
         let g = numbers[n as usize] as usize;
-        at = write_stretch(&rotations, &parts, between, g, out, at);
-        between = right_of(g);
+        at = write_stretch(&codes, before, g, out, at);
+        before = g;
         n += 1;
     }
-    let product = letter::compose(between, columns);
-    word_table::write_clifford(&rotations, &parts, product, out, at)
+    let last = letter::compose(right_of(before), columns);
+    word_table::write_clifford(last, out, at)
 }

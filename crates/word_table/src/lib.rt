@@ -93,15 +93,15 @@ const INVERSES: [[u8; 6]; 16] = [
     [1, 2, 3, 4, 5, 6],
 ];
 
-// The table of rotations, which a list names once for all its words.
-pub fn rotation_table() -> [u8; 252]
+// The table of rotations, which a word names once for both.
+fn rotation_table() -> [u8; 252]
     ensures { λ r. ⌜ r ≡ rotationTable ⌝ }
 {
     ROTATIONS
 }
 
 // The table of parts.
-pub fn part_table() -> [u8; 128]
+fn part_table() -> [u8; 128]
     ensures { λ r. ⌜ r ≡ partTable ⌝ }
 {
     PARTS
@@ -268,8 +268,8 @@ fn write_sign(even: bool, out: &mut [u8], at: usize) -> usize
     at + 2
 }
 
-// Writes the word of a Clifford into the buffer from `at` on and returns the place after it; the rest of the buffer stays.
-pub fn write_clifford(
+// Writes the word of a Clifford, with the tables at hand.
+fn write_word(
     rotations: &[u8],
     parts: &[u8],
     columns: [u8; 6],
@@ -284,4 +284,14 @@ pub fn write_clifford(
     let a = write_rotations(rotations, even, local, out, at);
     let b = write_parts(parts, columns, out, a);
     write_sign(even, out, b)
+}
+
+// Writes the word of a Clifford into the buffer from `at` on and returns the place after it; the rest of the buffer stays.
+pub fn write_clifford(columns: [u8; 6], out: &mut [u8], at: usize) -> usize
+    requires { ⌜ at + 32 ≤ length (now out) ⌝ }
+    ensures { λ r. ⌜ Written (cliffordWord columns) at (now (out .entry)) (now (out .exit)) r ⌝ }
+{
+    let rotations = rotation_table();
+    let parts = part_table();
+    write_word(&rotations, &parts, columns, out, at)
 }

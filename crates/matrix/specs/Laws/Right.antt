@@ -48,7 +48,9 @@ module _ (D : Matrix) (d : Orthogonal (operator 0 D)) where
   pub least-right : (k : ℕ) (M : Matrix) → Reduced (operator k M) → leastForm k (listed (product 6 M D)) ≡ record { exponent = k; matrix = listed (product 6 M D) }
   least-right k M r =
       least-reduced k (listed (product 6 M D))
-      (record { small = λ e. r .small
-        (λ i j hi hj.
-        let (y, q) = even-times (product 6 M D) (transpose D) (λ r c hr hc. let (x, p) = e r c hr hc in (x, sym (entry-listed (product 6 M D) r c hr hc) ∙ p)) i j hi hj in
-        (y, sym (taken-off M i j hi hj) ∙ q)) })
+      (record {
+        small = λ e. r .small
+            (λ i j hi hj.
+            let (y, q) = even-times (product 6 M D) (transpose D) (λ r c hr hc. let (x, p) = e r c hr hc in (x, sym (entry-listed (product 6 M D) r c hr hc) ∙ p)) i j hi hj in
+            (y, sym (taken-off M i j hi hj) ∙ q));
+      })

@@ -11,8 +11,8 @@ use Rattle.word.specs.Word.{isEvenHalf, rotationsOf, partsOf, signWord, unsigne
 use Rattle.letter.specs.Written.{Written}
 use Rattle.word.specs.Laws.Word.{rotations-length, parts-length}
 use Rattle.letter.specs.Laws.Written.{written-as, written-length, written-append}
-use Rattle.word_table.proofs.write_clifford.Statement.{statement}
-use Rattle.word_table.proofs.write_clifford.Tie as tie
+use Rattle.word_table.proofs.write_word.Statement.{statement}
+use Rattle.word_table.proofs.write_word.Tie as tie
 
 local-columns-requires : tie.Need-local-columns-requires
 local-columns-requires c κs = search needs
@@ -94,8 +94,8 @@ returns c =
     ∙ ap (λ x. (rotationsOf (isEvenHalf x) x ++ partsOf bs) ++ signWord (isEvenHalf x)) (l .local-columns .ensures))
     (written-append (unsigned-written p) (unsigned-room p) (c .before .before .write-sign .ensures))
 
-pub write-clifford-spec : {M : Type 1} → statement M
-write-clifford-spec =
+pub write-word-spec : {M : Type 1} → statement M
+write-word-spec =
     tie.close
     (tie.spec
     local-columns-requires
