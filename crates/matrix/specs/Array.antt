@@ -4,6 +4,7 @@ use mathlib.Core.List.{List}
 use Prim.Native.Nat.{ℕ, zero, suc, _/_, _%_, _^_, _<_, _≤_}
 use lib.Dec.{eqb, ltb}
 use lib.IntN.{ℤ, pos, natAbs, _+ℤ_, _-ℤ_, _*ℤ_}
+use lib.ListN.{getD, set}
 use lib.Signed.{leZ}
 use Rattle.matrix.specs.declared.Least.{Least}
 use Rattle.matrix.specs.Range.{every, bits, total}
@@ -48,6 +49,13 @@ halved M = λ r c. half (M r c)
 -- "rows i and j become half of (ri + rj) and half of (rj − ri)"
 abbrev pub halfSums : ℕ → ℕ → Matrix → Matrix
 halfSums i j M = replaced i (λ c. half (M i c +ℤ M j c)) (replaced j (λ c. half (M j c -ℤ M i c)) M)
+
+-- the same of two entries, at p and q of an array
+abbrev pub halfPair : ℕ → ℕ → List ℤ → List ℤ
+halfPair p q m =
+    let x = getD m p (pos 0) in
+    let y = getD m q (pos 0) in
+    set (set m p (half (x +ℤ y))) q (half (y -ℤ x))
 
 abbrev pub choose : {A : Type 0} → Bool → A → A → A
 choose true x y = x

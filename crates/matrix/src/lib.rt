@@ -3,11 +3,11 @@
 
 ghost use mathlib.Core.Path.{_≡_};
 ghost use Prim.Native.Nat.{_<_, _≤_, _^_};
-ghost use lib.IntN.{pos};
-ghost use lib.ListN.{length};
+ghost use lib.IntN.{pos, natAbs};
+ghost use lib.ListN.{length, getD};
 ghost use Rattle.matrix.specs.Integer.{parity};
 ghost use Rattle.matrix.specs.Matrix.{entry, listed, rowProduct};
-ghost use Rattle.matrix.specs.Array.{Bounded, orthogonalAt, isOrthogonal, isWithin, rowMask, rowWeight, allEven, halved, halfSums, leastForm};
+ghost use Rattle.matrix.specs.Array.{Bounded, orthogonalAt, isOrthogonal, isWithin, rowMask, rowWeight, allEven, halved, halfSums, halfPair, leastForm};
 
 // An operator at its least exponent.
 pub struct Least {
@@ -162,6 +162,17 @@ pub fn least_form(k: u8, m: [i64; 36]) -> Least
     Least { exponent, matrix }
 }
 
+// The entries x at p and y at q replaced by half of x + y and half of y - x.
+fn half_pair(m: &mut [i64; 36], p: usize, q: usize)
+    requires { ⌜ (p < 36) × (q < 36) × (length (now m) ≡ 36) × (natAbs (getD (now m) p (pos 0)) ≤ 2 ^ 30) × (natAbs (getD (now m) q (pos 0)) ≤ 2 ^ 30) ⌝ }
+    ensures { λ r. ⌜ now (m .exit) ≡ halfPair p q (now (m .entry)) ⌝ }
+{
+    let x = m[p];
+    let y = m[q];
+    m[p] = (x + y) / 2;
+    m[q] = (y - x) / 2;
+}
+
 // Rows i and j replaced by half of their sum and half of their difference, row j less row i.
 pub fn half_sums(m: &mut [i64; 36], i: usize, j: usize)
     requires { ⌜ (i < j) × (j < 6) × (length (now m) ≡ 36) × Bounded (2 ^ 30) (entry (now m)) ⌝ }
@@ -169,10 +180,7 @@ pub fn half_sums(m: &mut [i64; 36], i: usize, j: usize)
 {
     let mut c = 0usize;
     while c < 6 {
-        let x = m[i * 6 + c];
-        let y = m[j * 6 + c];
-        m[i * 6 + c] = (x + y) / 2;
-        m[j * 6 + c] = (y - x) / 2;
+        half_pair(m, i * 6 + c, j * 6 + c);
         c += 1;
     }
 }

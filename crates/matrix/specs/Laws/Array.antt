@@ -302,7 +302,7 @@ module _ (i j : ℕ) (M : Matrix) (w : i ≢ j) where
       )
 
 -- whatever holds of the two halves and of the other rows holds of all rows
-half-sums-case : (i j : ℕ) (M : Matrix) → i ≢ j → (c : ℕ) (P : ℕ → ℤ → Type 0) → P i (half (M i c +ℤ M j c)) → P j (half (M j c -ℤ M i c))
+pub half-sums-case : (i j : ℕ) (M : Matrix) → i ≢ j → (c : ℕ) (P : ℕ → ℤ → Type 0) → P i (half (M i c +ℤ M j c)) → P j (half (M j c -ℤ M i c))
     → ((r : ℕ) → r ≢ i → r ≢ j → P r (M r c)) → (r : ℕ) → P r (halfSums i j M r c)
 half-sums-case i j M w c P a b h r = elim (ℕ-discrete r i) [
   | yes e ↦ rw e (subst (P i) (sym (half-sums-i i j M w c)) a)
