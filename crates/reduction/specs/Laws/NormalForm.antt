@@ -48,11 +48,40 @@ module _ (k : ℕ) (m : List ℤ) (o : Orthogonal (operator (suc k) (entry m))) 
   step-operator : SameOperator (operator k (cut (chosen m) (entry m))) (operator k (entry (step m)))
   step-operator = same-operator-of _ _ refl (λ i j hi hj. sym (step-same i j hi hj))
 
-  pub step-orthogonal : Orthogonal (operator k (entry (step m)))
+  step-orthogonal : Orthogonal (operator k (entry (step m)))
   step-orthogonal = same-orthogonal step-operator (one-step k (entry m) o r .orthogonal)
 
-  pub step-reduced : Reduced (operator k (entry (step m)))
+  step-reduced : Reduced (operator k (entry (step m)))
   step-reduced = record { small = λ e. one-step k (entry m) o r .reduced .small (λ i j hi hj. subst (λ z. Even z) (step-same i j hi hj) (e i j hi hj)) }
+
+-- ---- a reduction that is under way: n generators are taken
+
+pub remainder-next : (n : ℕ) (m : List ℤ) → remainder (suc n) m ≡ step (remainder n m)
+unfolding remainder
+remainder-next zero m = refl
+remainder-next (suc n) m = remainder-next n (step m)
+
+pub generators-next : (n : ℕ) (m : List ℤ) → generators (suc n) m ≡ generators n m ++ (chosen (remainder n m) ∷ [])
+unfolding generators remainder
+generators-next zero m = refl
+generators-next (suc n) m = ap (λ gs. chosen m ∷ gs) (generators-next n (step m))
+
+pub length-generators : (n : ℕ) (m : List ℤ) → length (generators n m) ≡ n
+unfolding generators
+length-generators zero m = refl
+length-generators (suc n) m = ap suc (length-generators n (step m))
+
+-- what is left is orthogonal and reduced, n exponents lower
+pub under-way : (n k j : ℕ) (m : List ℤ) → k ≡ n + j → Orthogonal (operator k (entry m)) → Reduced (operator k (entry m))
+    → Orthogonal (operator j (entry (remainder n m))) × Reduced (operator j (entry (remainder n m)))
+unfolding remainder
+under-way zero k j m e o r =
+    let z : k ≡ j = omega arith in
+    (subst (λ x. Orthogonal (operator x (entry m))) z o, subst (λ x. Reduced (operator x (entry m))) z r)
+under-way (suc n) zero j m e o r = absurd (omega arith)
+under-way (suc n) (suc k) j m e o r = under-way n k j (step m) (omega arith) (step-orthogonal k m o r) (step-reduced k m o r)
+
+-- ---- the whole
 
 pub reduce : (k : ℕ) (m : List ℤ) → Orthogonal (operator k (entry m)) → Reduced (operator k (entry m)) → Taken k (entry m) (generators k m) (entry (remainder k m))
 unfolding generators remainder normalForm
@@ -67,7 +96,7 @@ reduce (suc k) m o r =
     let s = one-step k (entry m) o r in
     let rest = reduce k (step m) (step-orthogonal k m o r) (step-reduced k m o r) in
     record {
-      exact = ap suc (rest .exact);
+      exact = length-generators (suc k) m;
       numbers = λ i h. number-at i h (s .number) (rest .numbers);
       orthogonal = rest .orthogonal;
       same = same-operator-trans (s .same) (times-same (same-operator-refl (operator 1 (generator (chosen m)))) (same-operator-trans (step-operator k m o r) (rest .same)));
