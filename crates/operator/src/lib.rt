@@ -3,10 +3,14 @@
 use file::Answer;
 ghost use mathlib.Core.Path.{_≡_};
 ghost use mathlib.Core.List.{_++_};
-ghost use Prim.Native.Nat.{_+_, _≤_};
+ghost use Prim.Native.Nat.{_+_, _≤_, _^_};
 ghost use lib.ListN.{length, take};
+ghost use Rattle.matrix.specs.Matrix.{entry};
+ghost use Rattle.matrix.specs.Operator.{operator};
+ghost use Rattle.matrix.specs.Array.{Bounded};
 ghost use Rattle.file.specs.File.{written};
-ghost use Rattle.operator.specs.Cutting.{CutOf};
+ghost use Rattle.operator.specs.Acceptance.{entriesRefusal};
+ghost use Rattle.operator.specs.Cutting.{CutAs, CutOf};
 ghost use Rattle.operator.specs.Promise.{SheetPromise, GatesPromise};
 
 // What an operator file gives: the number of a refusal, or 0 and the normal form.
@@ -29,18 +33,11 @@ fn refused(refusal: u8) -> Cut
     }
 }
 
-// The refusal of an operator file, or the normal form of its operator.
-pub fn cut_file(bytes: &[u8]) -> Cut
-    ensures { λ r. ⌜ CutOf (now (bytes .entry)) r ⌝ }
+// The refusal of an operator for its entries, or its normal form.
+fn cut_operator(k: u8, m: [i64; 36]) -> Cut
+    requires { ⌜ (k ≤ 60) × Bounded (2 ^ 30) (entry m) ⌝ }
+    ensures { λ r. ⌜ CutAs (entriesRefusal (operator k (entry m))) k m r ⌝ }
 {
-    if bytes.len() != file::FILE_LENGTH {
-        return refused(1);
-    }
-    let k = bytes[0];
-    if file::LARGEST_EXPONENT < k {
-        return refused(2);
-    }
-    let m = file::decode(bytes);
     if !matrix::is_within(k, m) {
         return refused(3);
     }
@@ -61,6 +58,21 @@ pub fn cut_file(bytes: &[u8]) -> Cut
         numbers,
         columns,
     }
+}
+
+// The refusal of an operator file, or the normal form of its operator.
+pub fn cut_file(bytes: &[u8]) -> Cut
+    ensures { λ r. ⌜ CutOf (now (bytes .entry)) r ⌝ }
+{
+    if bytes.len() != file::FILE_LENGTH {
+        return refused(1);
+    }
+    let k = bytes[0];
+    if file::LARGEST_EXPONENT < k {
+        return refused(2);
+    }
+    let m = file::decode(bytes);
+    cut_operator(k, m)
 }
 
 // The sheet at the front of `out`; the bytes past it stay.

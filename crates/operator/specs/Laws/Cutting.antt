@@ -2,7 +2,8 @@
 use mathlib.Core.Path.{_≡_, refl, subst}
 use mathlib.Core.Bool.{Bool, true, false}
 use mathlib.Core.List.{List}
-use Prim.Native.Nat.{ℕ}
+use Prim.Native.Nat.{ℕ, _≤_}
+use native.Mathlib.Omega.{arith}
 use lib.Dec.{T}
 use lib.IntN.{ℤ}
 use Rattle.matrix.specs.Matrix.{entry}
@@ -14,7 +15,9 @@ use Rattle.clifford.specs.Laws.Columns.{Permutation, matrix-permutation, matrix
 use Rattle.clifford.specs.Laws.Sign.{even-proper, proper-even}
 use Rattle.reduction.specs.Reduction.{remaining}
 use Rattle.reduction.specs.Laws.NormalForm.{cutting}
+use Rattle.operator.specs.declared.Cut.{Cut}
 use Rattle.operator.specs.Acceptance.{isProper}
+use Rattle.operator.specs.Cutting.{CutAs}
 
 module _ (k : ℕ) (m : List ℤ) (o : Orthogonal (operator k (entry m))) where
   -- the columns that remain, and the matrix that remains
@@ -36,3 +39,12 @@ module _ (k : ℕ) (m : List ℤ) (o : Orthogonal (operator k (entry m))) where
       go true e false f = both (T-true _ (cutting k m o .proper (same-proper columns-same (even-proper _ perm e)) .positive .lt)) f
       go false e true f =
           both (proper-even _ perm (same-proper (same-operator-sym columns-same) (cutting k m o .clifford (record { positive = record { lt = true-T f } }) .proper))) e
+
+-- a refusal leaves the rest open
+pub refused-as : {n k : ℕ} {m : List ℤ} (r : Cut) → 1 ≤ n → r .refusal ≡ n → CutAs n k m r
+refused-as r h e = record {
+  refusal = e;
+  count = λ z. absurd (omega arith);
+  numbers = λ z. absurd (omega arith);
+  columns = λ z. absurd (omega arith);
+}
