@@ -31,14 +31,17 @@ areNumbers s = every (length s - 6) (λ n. isNumber (getD s n 0))
 abbrev pub isClifford : List ℕ → Bool
 isClifford bs = arePermutation bs && isEven bs
 
--- the refusals of a sheet in their order: "10: length below 6 or above 34", "11: a generator byte outside 1 to 15, or a column byte outside 1
--- to 6 and 129 to 134", "12: the six columns are no Clifford", "13: cutting its operator gives another sheet". 0 is none
-unfoldable pub sheetRefusal : List ℕ → ℕ
-sheetRefusal s =
+-- the tests of a sheet's bytes in their order: "10: length below 6 or above 34", "11: a generator byte outside 1 to 15, or a column byte outside
+-- 1 to 6 and 129 to 134", "12: the six columns are no Clifford"; n where they pass all
+abbrev pub bytesRefusal : List ℕ → ℕ → ℕ
+bytesRefusal s n =
     cond (ltb (length s) shortest || ltb longest (length s)) 10
     (cond (not (areNumbers s && areColumnBytes (sheetColumns s))) 11
-    (cond (not (isClifford (sheetColumns s))) 12
-    (cond (not (sameList (sheetOf (sheetOperator s)) s)) 13 0)))
+    (cond (not (isClifford (sheetColumns s))) 12 n))
+
+-- the refusals of a sheet: these, then "13: cutting its operator gives another sheet". 0 is none
+unfoldable pub sheetRefusal : List ℕ → ℕ
+sheetRefusal s = bytesRefusal s (cond (not (sameList (sheetOf (sheetOperator s)) s)) 13 0)
 
 -- a sheet's operator at its least exponent
 unfoldable pub sheetLeast : List ℕ → Least

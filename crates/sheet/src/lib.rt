@@ -2,7 +2,7 @@
 
 use file::Answer;
 use gate::Read;
-ghost use mathlib.Core.Bool.{true};
+ghost use mathlib.Core.Bool.{true, not, cond};
 ghost use mathlib.Core.List.{_++_};
 ghost use mathlib.Core.Path.{_≡_};
 ghost use Prim.Native.Nat.{_+_, _≤_};
@@ -11,9 +11,9 @@ ghost use Rattle.matrix.specs.List.{sameList};
 ghost use Rattle.matrix.specs.Range.{every};
 ghost use Rattle.matrix.specs.Matrix.{entry, listed};
 ghost use Rattle.matrix.specs.Operator.{operator, Orthogonal};
-ghost use Rattle.clifford.specs.Columns.{arePermutation, columnsMatrix};
+ghost use Rattle.clifford.specs.Columns.{areColumnBytes, arePermutation, columnsMatrix};
 ghost use Rattle.reduction.specs.Reduction.{normalForm};
-ghost use Rattle.sheet.specs.Sheet.{isNumber};
+ghost use Rattle.sheet.specs.Sheet.{isNumber, isClifford, bytesRefusal};
 ghost use Rattle.sheet.specs.Promise.{CutAgain, SheetRead, OperatorPromise};
 
 // The fewest and the most bytes of a sheet.
@@ -121,30 +121,50 @@ fn cut_again(bytes: &[u8], count: u8, m: [i64; 36]) -> Read
     }
 }
 
+// The refusal of six column bytes, or 0.
+fn columns_refusal(columns: [u8; 6]) -> u8
+    ensures { λ r. ⌜ r ≡ cond (not (areColumnBytes columns)) 11 (cond (not (isClifford columns)) 12 0) ⌝ }
+{
+    if !clifford::are_column_bytes(columns) {
+        return 11;
+    }
+    if !clifford::rows_differ(columns) {
+        return 12;
+    }
+    if !clifford::is_even(columns) {
+        return 12;
+    }
+    0
+}
+
+// The refusal that a sheet's bytes earn before its operator is looked at, or 0.
+fn bytes_refusal(bytes: &[u8]) -> u8
+    ensures { λ r. ⌜ r ≡ bytesRefusal (now (bytes .entry)) 0 ⌝ }
+{
+    if bytes.len() < SHORTEST {
+        return 10;
+    }
+    if LONGEST < bytes.len() {
+        return 10;
+    }
+    let count = bytes.len() - 6;
+    if !are_numbers(bytes, count) {
+        return 11;
+    }
+    let columns = columns_from(bytes, count);
+    columns_refusal(columns)
+}
+
 // The refusal of a sheet, or its operator at the least exponent.
 fn read_sheet(bytes: &[u8]) -> Read
     ensures { λ r. ⌜ SheetRead (now (bytes .entry)) r ⌝ }
 {
-    if bytes.len() < SHORTEST {
-        return refused(10);
-    }
-    if LONGEST < bytes.len() {
-        return refused(10);
+    let refusal = bytes_refusal(bytes);
+    if refusal != 0 {
+        return refused(refusal);
     }
     let count = bytes.len() - 6;
-    if !are_numbers(bytes, count) {
-        return refused(11);
-    }
     let columns = columns_from(bytes, count);
-    if !clifford::are_column_bytes(columns) {
-        return refused(11);
-    }
-    if !clifford::rows_differ(columns) {
-        return refused(12);
-    }
-    if !clifford::is_even(columns) {
-        return refused(12);
-    }
     let m = multiplied(bytes, count, columns);
     cut_again(bytes, count as u8, m)
 }

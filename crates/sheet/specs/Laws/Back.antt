@@ -98,12 +98,12 @@ module _ (s : List ℕ) (a : Accepted s) where
   unfolding sheet sheetLeast
   sheet-proper =
       let A = sheetOperator s in
-      let o = same-orthogonal (listed-same A) (sheet-orthogonal s a) in
+      let o = sheet-orthogonal s (a .form) in
       let C = remaining (A .exponent) (listed (A .matrix)) in
       let k = cutting (A .exponent) (listed (A .matrix)) o in
       let n : length (taken (A .exponent) (listed (A .matrix))) ≡ length s - 6 = let e = k .exact in let l = sheet-exact s a in let x : count (A .exponent) (listed (A .matrix)) ≡ sheetLeast s .exponent = refl in omega arith in
       let columns : columnBytes (entry C) ≡ sheetColumns s = sym (drop-at (taken (A .exponent) (listed (A .matrix))) (columnBytes (entry C)) (length s - 6) n) ∙ ap (drop (length s - 6)) (a .again) in
-      let even : Proper (operator 0 (columnsMatrix (columnBytes (entry C)))) = subst (λ x. Proper (operator 0 (columnsMatrix x))) (sym columns) (even-proper (sheetColumns s) (permutation-sound (sheetColumns s) (a .permutation)) (a .even)) in
+      let even : Proper (operator 0 (columnsMatrix (columnBytes (entry C)))) = subst (λ x. Proper (operator 0 (columnsMatrix x))) (sym columns) (even-proper (sheetColumns s) (permutation-sound (sheetColumns s) (a .form .permutation)) (a .form .even)) in
       same-proper (same-operator-sym (listed-same A)) (k .proper (same-proper (same-operator-of (operator 0 (columnsMatrix (columnBytes (entry C)))) (operator 0 (entry C)) refl (matrix-columns (entry C) (k .orthogonal))) even))
 
   pub sheet-file-accepted : fileRefusal sheetFile ≡ 0
@@ -118,6 +118,6 @@ module _ (s : List ℕ) (a : Accepted s) where
   sheet-file-cut =
       let A = sheetOperator s in
       ap₂ sheet exponent-read matrix-read
-      ∙ same-sheet (sheetLeast s .exponent) (A .exponent) (sheetLeast s .matrix) (listed (A .matrix)) least-long (length-listed (A .matrix)) (least-orthogonal-sheet s a) (same-orthogonal (listed-same A) (sheet-orthogonal s a))
+      ∙ same-sheet (sheetLeast s .exponent) (A .exponent) (sheetLeast s .matrix) (listed (A .matrix)) least-long (length-listed (A .matrix)) (least-orthogonal-sheet s a) (sheet-orthogonal s (a .form))
       (same-operator-trans (sheet-same-least s a) (listed-same A))
       ∙ a .again

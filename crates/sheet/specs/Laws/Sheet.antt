@@ -2,12 +2,13 @@
 use mathlib.Core.Path.{_≡_, refl, sym, ap, _∙_}
 use mathlib.Core.Bool.{Bool, true, false, not, cond, _&&_, _||_}
 use mathlib.Core.List.{List, [], _∷_}
+use mathlib.Core.Logic.{_≢_}
 use Prim.Native.Nat.{ℕ, suc, _+_, _-_, _≤_, _<_}
 use native.Mathlib.Omega.{arith}
 use lib.Dec.{leb, ltb}
 use lib.ListN.{length, getD, take}
 use lib.Seq.{length-take-le, getD-take}
-use borrow.Author.Tests.{leb-true, ltb-false}
+use borrow.Author.Tests.{leb-true, ltb-false, le-ltb}
 use Rattle.matrix.specs.List.{sameList}
 use Rattle.matrix.specs.Range.{every}
 use Rattle.matrix.specs.Matrix.{Matrix, entry, listed}
@@ -21,7 +22,7 @@ use Rattle.clifford.specs.Laws.Columns.{permutation-sound, columns-orthogonal}
 use Rattle.residue.specs.Laws.Generator.{generator-orthogonal}
 use Rattle.reduction.specs.Reduction.{sheetOf, normalForm, sheetNumbers, sheetColumns, sheetOperator}
 use Rattle.reduction.specs.Laws.NormalForm.{Numbers, length-sheet}
-use Rattle.sheet.specs.Sheet.{shortest, longest, isNumber, areNumbers, isClifford, sheetRefusal, sheetLeast}
+use Rattle.sheet.specs.Sheet.{shortest, longest, isNumber, areNumbers, isClifford, bytesRefusal, sheetRefusal, sheetLeast}
 
 -- bytes that pass the test are generator numbers
 pub numbers-sound : (s : List ℕ) (t : ℕ) → t ≤ length s → every t (λ n. isNumber (getD s n 0)) ≡ true → (i : ℕ) → i < t → (1 ≤ getD s i 0) × (getD s i 0 ≤ 15)
@@ -48,51 +49,84 @@ normal-orthogonal (g ∷ gs) C n o =
     let h = n 0 (omega arith) in
     times-orthogonal (generator-orthogonal g (h .0) (h .1)) (normal-orthogonal gs C (λ i u. n (suc i) (omega arith)) o)
 
--- ---- a sheet that earns no refusal
+-- ---- bytes that pass the tests
 
-pub record Accepted (s : List ℕ) : Type 0 where
+pub record InForm (s : List ℕ) : Type 0 where
   pub long : shortest ≤ length s
   pub short : length s ≤ longest
   pub numbers : areNumbers s ≡ true
   pub columns : areColumnBytes (sheetColumns s) ≡ true
   pub permutation : arePermutation (sheetColumns s) ≡ true
   pub even : isEven (sheetColumns s) ≡ true
-  pub again : sheetOf (sheetOperator s) ≡ s
 
-pub accepted : (s : List ℕ) → sheetRefusal s ≡ 0 → Accepted s
-unfolding sheetRefusal
-accepted s e =
-    go (ltb (length s) shortest) refl (ltb longest (length s)) refl (areNumbers s && areColumnBytes (sheetColumns s)) refl (isClifford (sheetColumns s)) refl (sameList (sheetOf (sheetOperator s)) s) refl e
+pub in-form : (s : List ℕ) (n : ℕ) → bytesRefusal s n ≡ 0 → InForm s
+in-form s n e =
+    go (ltb (length s) shortest) refl (ltb longest (length s)) refl (areNumbers s && areColumnBytes (sheetColumns s)) refl (isClifford (sheetColumns s)) refl e
   where
-    go : (a : Bool) → ltb (length s) shortest ≡ a → (b : Bool) → ltb longest (length s) ≡ b → (c : Bool) → (areNumbers s && areColumnBytes (sheetColumns s)) ≡ c → (d : Bool) → isClifford (sheetColumns s) ≡ d → (f : Bool) → sameList (sheetOf (sheetOperator s)) s ≡ f
-        → _≡_ {A = ℕ} (cond (a || b) 10 (cond (not c) 11 (cond (not d) 12 (cond (not f) 13 0)))) 0 → Accepted s
-    go true p b q c r d x f y e = absurd (omega arith)
-    go false p true q c r d x f y e = absurd (omega arith)
-    go false p false q false r d x f y e = absurd (omega arith)
-    go false p false q true r false x f y e = absurd (omega arith)
-    go false p false q true r true x false y e = absurd (omega arith)
-    go false p false q true r true x true y e = record {
+    go : (a : Bool) → ltb (length s) shortest ≡ a → (b : Bool) → ltb longest (length s) ≡ b → (c : Bool) → (areNumbers s && areColumnBytes (sheetColumns s)) ≡ c → (d : Bool) → isClifford (sheetColumns s) ≡ d
+        → _≡_ {A = ℕ} (cond (a || b) 10 (cond (not c) 11 (cond (not d) 12 n))) 0 → InForm s
+    go true p b q c r d x e = absurd (omega arith)
+    go false p true q c r d x e = absurd (omega arith)
+    go false p false q false r d x e = absurd (omega arith)
+    go false p false q true r false x e = absurd (omega arith)
+    go false p false q true r true x e = record {
       long = ltb-false _ _ p;
       short = ltb-false _ _ q;
       numbers = and-left (areNumbers s) (areColumnBytes (sheetColumns s)) r;
       columns = and-right (areNumbers s) (areColumnBytes (sheetColumns s)) r;
       permutation = and-left (arePermutation (sheetColumns s)) (isEven (sheetColumns s)) x;
       even = and-right (arePermutation (sheetColumns s)) (isEven (sheetColumns s)) x;
-      again = same-list _ _ y;
     }
 
-module _ (s : List ℕ) (a : Accepted s) where
-  pub sheet-orthogonal : Orthogonal (sheetOperator s)
+-- what follows the tests decides for them
+pub in-form-refusal : (s : List ℕ) (n : ℕ) → InForm s → bytesRefusal s n ≡ n
+in-form-refusal s n f = rw (le-ltb _ _ (f .long), le-ltb _ _ (f .short), f .numbers, f .columns, f .permutation, f .even)
+
+-- and for no others
+pub out-of-form : (s : List ℕ) (n : ℕ) → bytesRefusal s 0 ≢ 0 → bytesRefusal s n ≡ bytesRefusal s 0
+out-of-form s n h = go (ltb (length s) shortest || ltb longest (length s)) (areNumbers s && areColumnBytes (sheetColumns s)) (isClifford (sheetColumns s)) h
+  where
+    tests : Bool → Bool → Bool → ℕ → ℕ
+    tests a b c n = cond a 10 (cond (not b) 11 (cond (not c) 12 n))
+
+    go : (a b c : Bool) → tests a b c 0 ≢ 0 → tests a b c n ≡ tests a b c 0
+    go true b c h = refl
+    go false false c h = refl
+    go false true false h = refl
+    go false true true h = absurd (h refl)
+
+module _ (s : List ℕ) (f : InForm s) where
+  -- it has as many generators as bytes before the columns
+  pub sheet-exponent : sheetOperator s .exponent ≡ length s - 6
+  sheet-exponent = normal-exponent (sheetNumbers s) (columnsMatrix (sheetColumns s)) ∙ length-take-le (length s - 6) s (omega arith)
+
+  pub sheet-orthogonal : Orthogonal (operator (sheetOperator s .exponent) (entry (listed (sheetOperator s .matrix))))
   sheet-orthogonal =
-      normal-orthogonal (sheetNumbers s) (columnsMatrix (sheetColumns s)) (front-numbers s (length s - 6) (omega arith) (a .numbers))
-      (columns-orthogonal (sheetColumns s) (permutation-sound (sheetColumns s) (a .permutation)))
+      same-orthogonal (listed-same (sheetOperator s))
+      (normal-orthogonal (sheetNumbers s) (columnsMatrix (sheetColumns s)) (front-numbers s (length s - 6) (omega arith) (f .numbers))
+      (columns-orthogonal (sheetColumns s) (permutation-sound (sheetColumns s) (f .permutation))))
 
-  listed-orthogonal : Orthogonal (operator (sheetOperator s .exponent) (entry (listed (sheetOperator s .matrix))))
-  listed-orthogonal = same-orthogonal (listed-same (sheetOperator s)) sheet-orthogonal
+-- ---- a sheet that earns no refusal
 
+pub record Accepted (s : List ℕ) : Type 0 where
+  pub form : InForm s
+  pub again : sheetOf (sheetOperator s) ≡ s
+
+-- the test for 13 was passed
+pub same-again : (t : Bool) → _≡_ {A = ℕ} (cond (not t) 13 0) 0 → t ≡ true
+same-again true e = refl
+same-again false e = absurd (omega arith)
+
+pub accepted : (s : List ℕ) → sheetRefusal s ≡ 0 → Accepted s
+unfolding sheetRefusal
+accepted s e =
+    let f = in-form s _ e in
+    record { form = f; again = same-list _ _ (same-again _ (sym (in-form-refusal s _ f) ∙ e)) }
+
+module _ (s : List ℕ) (a : Accepted s) where
   pub least-orthogonal-sheet : Orthogonal (operatorOf (sheetLeast s))
   unfolding sheetLeast
-  least-orthogonal-sheet = least-orthogonal (sheetOperator s .exponent) (listed (sheetOperator s .matrix)) listed-orthogonal
+  least-orthogonal-sheet = least-orthogonal (sheetOperator s .exponent) (listed (sheetOperator s .matrix)) (sheet-orthogonal s (a .form))
 
   pub sheet-same-least : SameOperator (operatorOf (sheetLeast s)) (sheetOperator s)
   unfolding sheetLeast
@@ -101,12 +135,12 @@ module _ (s : List ℕ) (a : Accepted s) where
 
   pub sheet-least : LeastExponent (sheetOperator s) (sheetLeast s .exponent)
   unfolding sheetLeast
-  sheet-least = least-same (same-operator-sym (listed-same (sheetOperator s))) (least-exponent (sheetOperator s .exponent) (listed (sheetOperator s .matrix)) listed-orthogonal)
+  sheet-least = least-same (same-operator-sym (listed-same (sheetOperator s))) (least-exponent (sheetOperator s .exponent) (listed (sheetOperator s .matrix)) (sheet-orthogonal s (a .form)))
 
   -- a sheet has as many generators as its count says
   pub sheet-exact : length s ≡ sheetLeast s .exponent + 6
   unfolding sheetLeast
-  sheet-exact = sym (ap length (a .again)) ∙ length-sheet (sheetOperator s .exponent) (listed (sheetOperator s .matrix)) listed-orthogonal
+  sheet-exact = sym (ap length (a .again)) ∙ length-sheet (sheetOperator s .exponent) (listed (sheetOperator s .matrix)) (sheet-orthogonal s (a .form))
 
   pub sheet-small : sheetLeast s .exponent ≤ 28
-  sheet-small = let e = sheet-exact in let h = a .short in omega arith
+  sheet-small = let e = sheet-exact in let h = a .form .short in omega arith
