@@ -14,8 +14,8 @@ int main(void)
         printf("refused %u\n", dimfrets_refusal_number(answer));
         return 1;
     }
-    printf("count %u\nsheet", dimfrets_count(answer));
-    for (unsigned n = 0; n < dimfrets_count(answer) + 6; n++)
+    printf("count %u\nsheet", dimfrets_value(answer));
+    for (unsigned n = 0; n < dimfrets_value(answer) + 6; n++)
         printf(" %u", sheet[n]);
     printf("\n");
     return 0;

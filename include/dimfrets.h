@@ -2,11 +2,16 @@
  * The CS cutter: operators, sheets and gate lists, and the CS states to order.
  * Formats, numbers and the order of refusals are those of document 01.
  *
- * Every call answers one 64-bit word. Its low 16 bits are the count (for
- * dimfrets_states_to_order the figure) if they are below 256, and 256 plus the
- * refusal's number otherwise. The bits from 16 upwards are the number of letters
- * written; they are 0 unless a gate list was written. The functions at the end
- * of this file take an answer apart.
+ * Every call answers one 64-bit word:
+ *
+ *   bits      what
+ *   0 to 7    the refusal's number, 0 where there is none; with a refusal all
+ *             other bits are 0
+ *   8 to 31   the value: the count, or the figure of states to order
+ *   32 to 47  the length: the letters written; 0 unless a gate list was written
+ *   48 to 63  0
+ *
+ * The functions at the end of this file take a word apart.
  *
  * A call reads the in_len bytes at `in` and writes nowhere but in the out_len
  * bytes at `out`. With a refusal no byte of `out` changes; on success the bytes
@@ -113,25 +118,25 @@ uint64_t dimfrets_states_to_order(uint64_t t, uint64_t p);
 /* Whether an answer is a refusal: 1 or 0. */
 static inline int dimfrets_is_refused(uint64_t answer)
 {
-    return (answer & 0xFFFF) >= 256;
+    return (answer & 0xFF) != 0;
 }
 
 /* The number of a refusal, 1 to 14; 0 if the answer is none. */
 static inline unsigned dimfrets_refusal_number(uint64_t answer)
 {
-    return dimfrets_is_refused(answer) ? (unsigned)(answer & 0xFFFF) - 256 : 0;
-}
-
-/* The count, or the figure of states to order; of an answer that is no refusal. */
-static inline unsigned dimfrets_count(uint64_t answer)
-{
     return (unsigned)(answer & 0xFF);
 }
 
-/* The number of letters written; 0 unless a gate list was written. */
-static inline uint64_t dimfrets_letters(uint64_t answer)
+/* The count, or the figure of states to order; of an answer that is no refusal. */
+static inline unsigned dimfrets_value(uint64_t answer)
 {
-    return answer >> 16;
+    return (unsigned)(answer >> 8 & 0xFFFFFF);
+}
+
+/* The number of letters written; 0 unless a gate list was written. */
+static inline size_t dimfrets_length(uint64_t answer)
+{
+    return (size_t)(answer >> 32 & 0xFFFF);
 }
 
 #ifdef __cplusplus

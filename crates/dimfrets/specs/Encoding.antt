@@ -1,26 +1,69 @@
--- An answer as one number of 64 bits, for callers in other languages: its low 16 bits are the count or the figure if below 256, and 256 + the
--- refusal's number otherwise; its bits from 16 on are the number of letters written, and 0 where none are.
+-- An answer as one word of 64 bits, for callers in other languages.
+use mathlib.Core.Bool.{cond}
 use mathlib.Core.Path.{_≡_}
-use Prim.Native.Nat.{ℕ, _+_, _*_}
+use Prim.Native.Nat.{ℕ, _+_, _*_, _^_, _/_, _%_, _<_, _≤_}
+use lib.Dec.{eqb}
 use Rattle.file.specs.declared.Answer.{Answer}
 use Rattle.file.specs.declared.Answer.the-variants.{Count, Refused}
 use Rattle.operator.specs.declared.Listed as listed
 
-abbrev pub encoded : Answer → ℕ
-encoded (Count n) = n
-encoded (Refused n) = 256 + n
+-- ---- the layout
+
+-- bits 0 to 7: "the refusal's number, 0 where there is none"
+-- bits 8 to 31: "the value: count, figure, number of bytes written, layers, stock, or a part's first byte"
+-- bits 32 to 47: "a length: the letters written, or the length of a part"
+-- bits 48 to 55: "L, the cuts that grouped as 2 and 4"
+-- bits 56 to 63: "the sign, 0 or 1, or the power of ω, 0 to 7"
+abbrev pub packed : (refusal value length loose phase : ℕ) → ℕ
+packed refusal value length loose phase = refusal + 2 ^ 8 * value + 2 ^ 32 * length + 2 ^ 48 * loose + 2 ^ 56 * phase
+
+-- what an answer says: a refusal's number, or the other parts, 0 for each that it has not
+pub data Parts : Type 0 where
+  refused : (refusal : ℕ) → Parts
+  given : (value length loose phase : ℕ) → Parts
+
+-- "with a refusal all other bits are 0"
+abbrev pub encoded : Parts → ℕ
+encoded (refused refusal) = packed refusal 0 0 0 0
+encoded (given value length loose phase) = packed 0 value length loose phase
+
+-- the parts have room; refusals are numbered from 1
+abbrev pub Fits : Parts → Type 0
+Fits (refused refusal) = (1 ≤ refusal) × (refusal < 2 ^ 8)
+Fits (given value length loose phase) = (value < 2 ^ 24) × (length < 2 ^ 16) × (loose < 2 ^ 8) × (phase < 2 ^ 8)
+
+-- so many bits of a word, from a given one on
+abbrev pub bits : (from width word : ℕ) → ℕ
+bits from width word = word / 2 ^ from % 2 ^ width
+
+-- a word taken apart: a refusal if its low eight bits are not all 0
+abbrev pub decoded : ℕ → Parts
+decoded w = cond (eqb (bits 0 8 w) 0) (given (bits 8 24 w) (bits 32 16 w) (bits 48 8 w) (bits 56 8 w)) (refused (bits 0 8 w))
+
+-- ---- what the calls answer
+
+-- the count, or the figure, is the value
+abbrev pub answerParts : Answer → Parts
+answerParts (Count n) = given n 0 0 0
+answerParts (Refused n) = refused n
+
+-- the count is the value, the number of letters written the length
+abbrev pub listedParts : listed.Listed → Parts
+listedParts (listed.the-variants.Letters t letters) = given t letters 0 0
+listedParts (listed.the-variants.Refused n) = refused n
 
 -- the number of letters written
 abbrev pub lettersOf : listed.Listed → ℕ
 lettersOf (listed.the-variants.Letters t letters) = letters
 lettersOf (listed.the-variants.Refused n) = 0
 
-abbrev pub encodedList : listed.Listed → ℕ
-encodedList (listed.the-variants.Letters t letters) = t + 65536 * letters
-encodedList (listed.the-variants.Refused n) = 256 + n
+-- r is the word of the parts p, and they have room, so that a caller finds them (`parts-back`)
+pub record WordOf (p : Parts) (r : ℕ) : Type 0 where
+  pub fits : Fits p
+  pub is : r ≡ encoded p
 
--- r encodes an answer of which P holds
-pub record Encodes {A : Type 0} (encode : A → ℕ) (P : A → Type 0) (r : ℕ) : Type 0 where
+-- r is the word of an answer of which P holds
+pub record Encodes {A : Type 0} (parts : A → Parts) (P : A → Type 0) (r : ℕ) : Type 0 where
   pub answer : A
   pub holds : P answer
-  pub encodes : r ≡ encode answer
+  pub word : WordOf (parts answer) r

@@ -1,2 +1,3 @@
 -- Theorems, a file for each subject.
 pub mod Encoding
+pub mod Answers

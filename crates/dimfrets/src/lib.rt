@@ -2,50 +2,74 @@
 
 use file::Answer;
 use operator::Listed;
+ghost use mathlib.Core.Logic.{_≢_};
 ghost use mathlib.Core.Path.{_≡_};
 ghost use Prim.Native.Nat.{_^_, _<_};
 ghost use Rattle.gate.specs.Promise.{ProductPromise};
 ghost use Rattle.operator.specs.Promise.{SheetPromise, GatesPromise};
 ghost use Rattle.order.specs.Order.{orderAnswer};
 ghost use Rattle.sheet.specs.Promise.{OperatorPromise};
-ghost use Rattle.dimfrets.specs.Encoding.{encoded, encodedList, lettersOf, Encodes};
+ghost use Rattle.dimfrets.specs.Encoding.{packed, answerParts, listedParts, lettersOf, WordOf, Encodes};
 
-// An answer as one number.
+// The lowest bit of each part of a word; that of the refusal is 1.
+const VALUE: u64 = 1 << 8;
+
+const LENGTH: u64 = 1 << 32;
+
+const LOOSE: u64 = 1 << 48;
+
+const PHASE: u64 = 1 << 56;
+
+// The word of an answer's parts.
+// Wrong, and refused: L and the phase in each other's bits; a value from bit 9 on.
+fn pack(refusal: u8, value: u32, length: u16, loose: u8, phase: u8) -> u64
+    requires { ⌜ value < 2 ^ 24 ⌝ }
+    ensures { λ r. ⌜ r ≡ packed refusal value length loose phase ⌝ }
+{
+    refusal as u64
+        + VALUE * (value as u64)
+        + LENGTH * (length as u64)
+        + LOOSE * (loose as u64)
+        + PHASE * (phase as u64)
+}
+
+// The word of an answer.
+// Wrong, and refused: the count as a length; a value beside a refusal.
 fn encode_answer(answer: Answer) -> u64
-    ensures { λ r. ⌜ r ≡ encoded answer ⌝ }
+    requires { ⌜ answer ≢ Answer.Refused 0 ⌝ }
+    ensures { λ r. ⌜ WordOf (answerParts answer) r ⌝ }
 {
     match answer {
-        Answer::Count(count) => count as u64,
-        Answer::Refused(refusal) => 256 + refusal as u64,
+        Answer::Count(count) => pack(0, count as u32, 0, 0, 0),
+        Answer::Refused(refusal) => pack(refusal, 0, 0, 0, 0),
     }
 }
 
-// The answer of the call for a gate list as one number.
+// The word of the answer of the call for a gate list.
+// Wrong, and refused: the count as the number of letters; a refusal beside a count.
 fn encode_listed(answer: Listed) -> u64
-    requires { ⌜ lettersOf answer < 2 ^ 32 ⌝ }
-    ensures { λ r. ⌜ r ≡ encodedList answer ⌝ }
+    requires { ⌜ (answer ≢ Listed.Refused 0) × (lettersOf answer < 2 ^ 16) ⌝ }
+    ensures { λ r. ⌜ WordOf (listedParts answer) r ⌝ }
 {
     match answer {
-        Listed::Letters { count, letters } => count as u64 + 65536 * (letters as u64),
-        Listed::Refused(refusal) => 256 + refusal as u64,
+        Listed::Letters { count, letters } => pack(0, count as u32, letters as u16, 0, 0),
+        Listed::Refused(refusal) => pack(refusal, 0, 0, 0, 0),
     }
 }
 
 // An operator file into a sheet.
-// Wrong, and refused, here and below: a refusal's number below 256; the answer of another call.
 #[no_mangle]
 pub extern "C" fn dimfrets_operator_to_sheet(input: &[u8], output: &mut [u8]) -> u64
-    ensures { λ r. ⌜ Encodes encoded (SheetPromise (now (input .entry)) (now (output .entry)) (now (output .exit))) r ⌝ }
+    ensures { λ r. ⌜ Encodes answerParts (SheetPromise (now (input .entry)) (now (output .entry)) (now (output .exit))) r ⌝ }
 {
     let answer = operator::operator_to_sheet(input, output);
     encode_answer(answer)
 }
 
 // An operator file into a gate list.
-// Wrong, and refused: the number of letters from bit 8 on; the number of letters left out.
 #[no_mangle]
 pub extern "C" fn dimfrets_operator_to_gates(input: &[u8], output: &mut [u8]) -> u64
-    ensures { λ r. ⌜ Encodes encodedList (GatesPromise (now (input .entry)) (now (output .entry)) (now (output .exit))) r ⌝ }
+    ensures { λ r. ⌜ Encodes listedParts (GatesPromise (now (input .entry)) (now (output .entry)) (now (output .exit))) r ⌝ }
 {
     let answer = operator::operator_to_gates(input, output);
     encode_listed(answer)
@@ -54,7 +78,7 @@ pub extern "C" fn dimfrets_operator_to_gates(input: &[u8], output: &mut [u8]) ->
 // A gate list into an operator file.
 #[no_mangle]
 pub extern "C" fn dimfrets_gates_to_operator(input: &[u8], output: &mut [u8]) -> u64
-    ensures { λ r. ⌜ Encodes encoded (ProductPromise (now (input .entry)) (now (output .entry)) (now (output .exit))) r ⌝ }
+    ensures { λ r. ⌜ Encodes answerParts (ProductPromise (now (input .entry)) (now (output .entry)) (now (output .exit))) r ⌝ }
 {
     let answer = gate::gates_to_operator(input, output);
     encode_answer(answer)
@@ -63,16 +87,17 @@ pub extern "C" fn dimfrets_gates_to_operator(input: &[u8], output: &mut [u8]) ->
 // A sheet into an operator file.
 #[no_mangle]
 pub extern "C" fn dimfrets_sheet_to_operator(input: &[u8], output: &mut [u8]) -> u64
-    ensures { λ r. ⌜ Encodes encoded (OperatorPromise (now (input .entry)) (now (output .entry)) (now (output .exit))) r ⌝ }
+    ensures { λ r. ⌜ Encodes answerParts (OperatorPromise (now (input .entry)) (now (output .entry)) (now (output .exit))) r ⌝ }
 {
     let answer = sheet::sheet_to_operator(input, output);
     encode_answer(answer)
 }
 
 // The number of CS states to order.
+// Wrong, and refused: the count and the spoilage exchanged.
 #[no_mangle]
 pub extern "C" fn dimfrets_states_to_order(t: u64, p: u64) -> u64
-    ensures { λ r. ⌜ r ≡ encoded (orderAnswer t p) ⌝ }
+    ensures { λ r. ⌜ WordOf (answerParts (orderAnswer t p)) r ⌝ }
 {
     let answer = order::states_to_order(t, p);
     encode_answer(answer)

@@ -117,24 +117,45 @@ fn run(call: Call, input: &[u8], out: &mut [u8]) -> u64 {
     unsafe { call(input.as_ptr(), in_len, out.as_mut_ptr(), out_len) }
 }
 
-/// The count of an answer without letters.
-fn count(answer: u64) -> Result<u8, Refusal> {
-    u8::try_from(answer).map_err(|_| refusal(answer))
+/// The parts of an answer that is no refusal.
+struct Parts {
+    value: u32,
+    length: u16,
 }
 
-/// The count in the low 16 bits of an answer, and the letters above them.
-fn letters(answer: u64) -> Result<Letters, Refusal> {
-    let count = u8::try_from(answer as u16).map_err(|_| refusal(answer))?;
-    let letters = (answer >> 16) as usize;
-    Ok(Letters { count, letters })
+/// Takes the word of an answer apart: the refusal's number in bits 0 to 7, the value in 8 to 31,
+/// the length in 32 to 47. With a refusal all other bits are 0; those from 48 on always are.
+fn parts(word: u64) -> Result<Parts, Refusal> {
+    if word as u8 != 0 {
+        let number = u8::try_from(word).expect("a refusal has no other part");
+        return Err(Refusal::from_number(number).expect("a refusal has a known number"));
+    }
+    assert_eq!(word >> 48, 0, "no answer has a part from bit 48 on");
+    Ok(Parts {
+        value: word as u32 >> 8,
+        length: (word >> 32) as u16,
+    })
 }
 
-/// The refusal of an answer that is no count; it comes without letters.
-#[cold]
-fn refusal(answer: u64) -> Refusal {
-    let number = answer.checked_sub(256).and_then(|n| u16::try_from(n).ok());
-    let refusal = number.and_then(Refusal::from_number);
-    refusal.expect("the library refused with a known number")
+/// The count of an answer without a length.
+fn count(word: u64) -> Result<u8, Refusal> {
+    let parts = parts(word)?;
+    assert_eq!(parts.length, 0, "only a gate list has a length");
+    Ok(byte(parts.value))
+}
+
+/// The count of a written gate list, and its length.
+fn letters(word: u64) -> Result<Letters, Refusal> {
+    let parts = parts(word)?;
+    Ok(Letters {
+        count: byte(parts.value),
+        letters: parts.length.into(),
+    })
+}
+
+/// A count or a figure.
+fn byte(value: u32) -> u8 {
+    u8::try_from(value).expect("a count is below 256")
 }
 
 #[cfg(test)]
@@ -145,24 +166,60 @@ mod tests {
     fn an_answer_is_taken_apart() {
         let written = Letters {
             count: 255,
-            letters: 7424,
+            letters: 65535,
         };
-        assert_eq!(letters(7424 << 16 | 255), Ok(written));
-        assert_eq!(letters(256 + 1), Err(Refusal::FileLength));
-        assert_eq!(count(28), Ok(28));
-        assert_eq!(count(256 + 14), Err(Refusal::OrderOutOfRange));
+        assert_eq!(letters(65535 << 32 | 255 << 8), Ok(written));
+        assert_eq!(letters(1), Err(Refusal::FileLength));
+        assert_eq!(count(28 << 8), Ok(28));
+        assert_eq!(count(14), Err(Refusal::OrderOutOfRange));
     }
 
     #[test]
     #[should_panic(expected = "known number")]
     fn a_refusal_has_a_known_number() {
-        let _ = count(256 + 15);
+        let _ = count(15);
     }
 
     #[test]
-    #[should_panic(expected = "known number")]
-    fn only_a_gate_list_has_letters() {
-        let _ = count(1 << 16 | 28);
+    #[should_panic(expected = "no other part")]
+    fn a_refusal_has_no_value() {
+        let _ = count(28 << 8 | 1);
+    }
+
+    #[test]
+    #[should_panic(expected = "no other part")]
+    fn a_refusal_has_no_bit_beside_it() {
+        let _ = letters(1 << 63 | 1);
+    }
+
+    #[test]
+    #[should_panic(expected = "from bit 48 on")]
+    fn no_answer_has_bit_48() {
+        let _ = letters(1 << 48 | 28 << 8);
+    }
+
+    #[test]
+    #[should_panic(expected = "from bit 48 on")]
+    fn no_answer_has_bit_63() {
+        let _ = count(1 << 63 | 28 << 8);
+    }
+
+    #[test]
+    #[should_panic(expected = "only a gate list")]
+    fn only_a_gate_list_has_a_length() {
+        let _ = count(1 << 32 | 28 << 8);
+    }
+
+    #[test]
+    #[should_panic(expected = "below 256")]
+    fn a_count_is_below_256() {
+        let _ = count(256 << 8);
+    }
+
+    #[test]
+    #[should_panic(expected = "below 256")]
+    fn the_count_of_a_gate_list_is_below_256() {
+        let _ = letters(1 << 31);
     }
 
     #[test]

@@ -47,7 +47,7 @@ impl Refusal {
     }
 
     /// The refusal with a number of 1 to 14.
-    pub fn from_number(number: u16) -> Option<Refusal> {
+    pub fn from_number(number: u8) -> Option<Refusal> {
         let index = usize::from(number).checked_sub(1)?;
         Refusal::ALL.get(index).copied()
     }
@@ -89,7 +89,7 @@ mod tests {
     #[test]
     fn numbers_lead_to_their_refusals() {
         for (number, refusal) in (1..).zip(Refusal::ALL) {
-            assert_eq!(u16::from(refusal.number()), number);
+            assert_eq!(refusal.number(), number);
             assert_eq!(Refusal::from_number(number), Some(refusal));
         }
         assert_eq!(Refusal::from_number(0), None);

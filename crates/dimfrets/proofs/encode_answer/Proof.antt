@@ -1,6 +1,8 @@
 -- Each case is that of the definition.
-use mathlib.Core.Path.{sym, ap}
-use Rattle.dimfrets.specs.Encoding.{encoded}
+use mathlib.Core.Path.{sym, subst}
+use Rattle.file.specs.declared.Answer.the-variants.{Refused}
+use Rattle.dimfrets.specs.Encoding.{answerParts, WordOf}
+use Rattle.dimfrets.specs.Laws.Encoding.{numbered}
 use borrow.Author.Needs.{needs}
 use Rattle.dimfrets.proofs.encode_answer.Statement.{statement}
 use Rattle.dimfrets.proofs.encode_answer.Tie as tie
@@ -8,32 +10,37 @@ use Rattle.dimfrets.proofs.encode_answer.Tie as tie
 enum-known-answer : tie.Need-enum-known-answer
 enum-known-answer c = search needs
 
-cast-result : tie.Need-cast-result
-cast-result c = search needs
+cast-pack : tie.Need-cast-pack
+cast-pack c = search needs
+
+pack-requires : tie.Need-pack-requires
+pack-requires c κs = search needs
 
 enum-known-answer-2 : tie.Need-enum-known-answer-2
 enum-known-answer-2 c = search needs
 
-cast-result-2 : tie.Need-cast-result-2
-cast-result-2 c = search needs
-
-add-result : tie.Need-add-result
-add-result c = search needs
+pack-requires-2 : tie.Need-pack-requires-2
+pack-requires-2 c κs = search needs
 
 returns : tie.Need-returns
-returns c = search needs
+returns c =
+    let e = c .before .before .answer .given .1 in
+    subst (λ a. WordOf (answerParts a) (c .pack .result)) (sym e) (record { fits = search needs; is = c .pack .ensures })
 
 returns-2 : tie.Need-returns-2
-returns-2 c = ap encoded (sym (c .before .answer2 .given .1))
+returns-2 c =
+    let e = c .before .before .answer2 .given .1 in
+    let n = numbered Refused (c .before .before .before .before .pre) e in
+    subst (λ a. WordOf (answerParts a) (c .pack2 .result)) (sym e) (record { fits = search needs; is = c .pack2 .ensures })
 
 pub encode-answer-spec : {M : Type 1} → statement M
 encode-answer-spec =
     tie.close
     (tie.spec
     enum-known-answer
-    cast-result
+    cast-pack
+    pack-requires
     enum-known-answer-2
-    cast-result-2
-    add-result
+    pack-requires-2
     returns
     returns-2)

@@ -1,54 +1,54 @@
 -- Each case is that of the definition.
-use mathlib.Core.Path.{_≡_, sym, ap, subst}
+use mathlib.Core.Path.{sym, subst}
 use Prim.Native.Nat.{_^_, _<_}
-use native.Mathlib.Omega.{arith}
-use Rattle.operator.specs.declared.Listed as listed
-use Rattle.dimfrets.specs.Encoding.{encodedList, lettersOf}
+use Rattle.operator.specs.declared.Listed.the-variants.{Refused}
+use Rattle.dimfrets.specs.Encoding.{listedParts, lettersOf, WordOf}
+use Rattle.dimfrets.specs.Laws.Encoding.{numbered}
 use borrow.Author.Needs.{needs}
 use Rattle.dimfrets.proofs.encode_listed.Statement.{statement}
 use Rattle.dimfrets.proofs.encode_listed.Tie as tie
 
--- what is required, of the case in hand
-bound : (a b : listed.Listed) → lettersOf a < 2 ^ 32 → a ≡ b → lettersOf b < 2 ^ 32
-bound a b h e = subst (λ x. lettersOf x < 2 ^ 32) e h
-
 enum-known-answer : tie.Need-enum-known-answer
 enum-known-answer c = search needs
 
-cast-result : tie.Need-cast-result
-cast-result c = search needs
+cast-pack : tie.Need-cast-pack
+cast-pack c = search needs
 
-mul-result : tie.Need-mul-result
-mul-result c = let h = bound _ _ (c .before .before .before .pre) (c .before .answer .given .1) in omega arith
+cast-pack-2 : tie.Need-cast-pack-2
+cast-pack-2 c =
+    let h = subst (λ a. lettersOf a < 2 ^ 16) (c .before .answer .given .1) (c .before .before .before .pre .1) in
+    search needs
 
-add-result : tie.Need-add-result
-add-result c = let h = bound _ _ (c .before .before .before .pre) (c .before .answer .given .1) in omega arith
+pack-requires : tie.Need-pack-requires
+pack-requires c κs = search needs
 
 enum-known-answer-2 : tie.Need-enum-known-answer-2
 enum-known-answer-2 c = search needs
 
-cast-result-2 : tie.Need-cast-result-2
-cast-result-2 c = search needs
-
-add-result-2 : tie.Need-add-result-2
-add-result-2 c = search needs
+pack-requires-2 : tie.Need-pack-requires-2
+pack-requires-2 c κs = search needs
 
 returns : tie.Need-returns
-returns c = ap encodedList (sym (c .before .answer .given .1))
+returns c =
+    let e = c .before .before .answer .given .1 in
+    let h = subst (λ a. lettersOf a < 2 ^ 16) e (c .before .before .before .before .pre .1) in
+    subst (λ a. WordOf (listedParts a) (c .pack .result)) (sym e) (record { fits = search needs; is = c .pack .ensures })
 
 returns-2 : tie.Need-returns-2
-returns-2 c = ap encodedList (sym (c .before .answer2 .given .1))
+returns-2 c =
+    let e = c .before .before .answer2 .given .1 in
+    let n = numbered Refused (c .before .before .before .before .pre .0) e in
+    subst (λ a. WordOf (listedParts a) (c .pack2 .result)) (sym e) (record { fits = search needs; is = c .pack2 .ensures })
 
 pub encode-listed-spec : {M : Type 1} → statement M
 encode-listed-spec =
     tie.close
     (tie.spec
     enum-known-answer
-    cast-result
-    mul-result
-    add-result
+    cast-pack
+    cast-pack-2
+    pack-requires
     enum-known-answer-2
-    cast-result-2
-    add-result-2
+    pack-requires-2
     returns
     returns-2)

@@ -1,16 +1,29 @@
--- A caller finds the answer's parts in the number: counts and refusals are bytes, so nothing runs into another part.
-use mathlib.Core.Path.{_≡_}
-use Prim.Native.Nat.{ℕ, _+_, _/_, _%_, _<_, _≤_}
+-- Parts that have room are found in their word.
+use mathlib.Core.Logic.{_≢_}
+use mathlib.Core.Path.{_≡_, ap, _∙_}
+use Prim.Native.Nat.{ℕ, _≤_}
 use native.Mathlib.Omega.{arith}
-use Rattle.file.specs.declared.Answer.the-variants.{Count, Refused}
-use Rattle.operator.specs.declared.Listed.the-variants as listed
-use Rattle.dimfrets.specs.Encoding.{encoded, encodedList}
+use borrow.Author.Tests.{eq-eqb, ne-eqb}
+use Rattle.dimfrets.specs.Encoding.{packed, Parts, refused, given, encoded, Fits, bits, decoded}
 
-pub count-back : (n : ℕ) → n < 256 → (encoded (Count n) % 65536 ≡ n) × (encoded (Count n) / 65536 ≡ 0)
-count-back n h = (omega arith, omega arith)
+-- an answer that is not refusal 0 has a number from 1 on, if it is a refusal
+pub numbered : {A : Type 0} {a : A} {n : ℕ} (refusal : ℕ → A) → a ≢ refusal 0 → a ≡ refusal n → 1 ≤ n
+numbered {n = n} refusal h e = let z : n ≢ 0 = λ z. h (e ∙ ap refusal z) in omega arith
 
-pub refusal-back : (n : ℕ) → n < 256 → (256 ≤ encoded (Refused n) % 65536) × (encoded (Refused n) % 65536 ≡ 256 + n) × (encoded (Refused n) / 65536 ≡ 0)
-refusal-back n h = (omega arith, omega arith, omega arith)
+-- a refusal's word is its number, with no other bit
+pub refusal-alone : (n : ℕ) → encoded (refused n) ≡ n
+refusal-alone n = omega arith
 
-pub letters-back : (t n : ℕ) → t < 256 → (encodedList (listed.Letters t n) % 65536 ≡ t) × (encodedList (listed.Letters t n) / 65536 ≡ n)
-letters-back t n h = (omega arith, omega arith)
+-- so a word is a refusal's exactly if its low eight bits are not all 0
+pub parts-back : (p : Parts) → Fits p → decoded (encoded p) ≡ p
+parts-back (refused n) h =
+    let w = packed n 0 0 0 0 in
+    let e : bits 0 8 w ≡ n = omega arith in
+    rw (ne-eqb (bits 0 8 w) 0 (λ z. omega arith)) (cc)
+parts-back (given v l o p) h =
+    let w = packed 0 v l o p in
+    let e₄ : bits 56 8 w ≡ p = omega arith in
+    let e₃ : bits 48 8 w ≡ o = omega arith in
+    let e₂ : bits 32 16 w ≡ l = omega arith in
+    let e₁ : bits 8 24 w ≡ v = omega arith in
+    rw (eq-eqb (bits 0 8 w) 0 (omega arith)) (cc)

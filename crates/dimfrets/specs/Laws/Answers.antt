@@ -1,0 +1,97 @@
+-- What the calls answer has room in the word: no refusal is numbered 0, and no gate list has 2^16 letters.
+use mathlib.Core.Bool.{Bool, true, false, cond, _||_}
+use mathlib.Core.List.{List, [], _∷_, _++_}
+use mathlib.Core.Logic.{_≢_}
+use mathlib.Core.Path.{_≡_, refl, ap}
+use Prim.Native.Nat.{ℕ, _+_, _*_, _^_, _<_, _≤_}
+use native.Mathlib.Decide.{ℕ-discrete, decLt}
+use native.Mathlib.Omega.{arith}
+use lib.Dec.{eqb, ltb}
+use lib.ListN.{length}
+use borrow.Author.Tests.{eqb-false}
+use Rattle.file.specs.declared.Answer.the-variants.{Count, Refused}
+use Rattle.file.specs.File.{largestExponent, fileLength}
+use Rattle.word.specs.declared.Gate.{Gate}
+use Rattle.word.specs.declared.Letter.{Letter}
+use Rattle.word.specs.declared.Letter.the-variants.{Is, Unknown}
+use Rattle.word.specs.Gate.{gateOf}
+use Rattle.gate.specs.Reading as reading
+use Rattle.operator.specs.declared.Listed as listed
+use Rattle.operator.specs.Acceptance.{fileRefusal}
+use Rattle.operator.specs.Cutting.{fileCount}
+use Rattle.operator.specs.Promise.{fileSheet, sheetAnswer, GatesPromise}
+use Rattle.operator.specs.Laws.Promise.{count-small}
+use Rattle.sheet.specs.Sheet.{sheetRefusal, sheetLeast}
+use Rattle.sheet.specs.Promise as sheet
+use Rattle.order.specs.Order.{largestSpoilage, figure, orderAnswer}
+use Rattle.dimfrets.specs.Encoding.{lettersOf}
+
+-- a refusal of its own number, or none
+chosen : (t : Bool) (x n : ℕ) → x ≢ 0 → cond t (Refused x) (Count n) ≢ Refused 0
+chosen true x n h e = h (cc)
+chosen false x n h e = let z : _≡_ {A = ℕ} 0 1 = cc in omega arith
+
+-- refused with the number r where it is not 0, and else with 6 for want of room
+refused-or-short : (r n : ℕ) (t : Bool) → cond (eqb r 0) (cond t (Refused 6) (Count n)) (Refused r) ≢ Refused 0
+refused-or-short r n t = by (eqb r 0) (eqb-false r 0)
+  where
+    by : (none : Bool) → (none ≡ false → r ≢ 0) → cond none (cond t (Refused 6) (Count n)) (Refused r) ≢ Refused 0
+    by true h = chosen t 6 n (λ z. omega arith)
+    by false h = λ e. h refl (cc)
+
+pub sheet-not-zero : (b : List ℕ) (n : ℕ) → sheetAnswer b n ≢ Refused 0
+unfolding sheetAnswer
+sheet-not-zero b n = refused-or-short (fileRefusal b) (fileCount b) (ltb n (length (fileSheet b)))
+
+pub sheet-operator-not-zero : (s : List ℕ) (n : ℕ) → sheet.operatorAnswer s n ≢ Refused 0
+unfolding sheet.operatorAnswer
+sheet-operator-not-zero s n = refused-or-short (sheetRefusal s) (sheetLeast s .exponent) (ltb n fileLength)
+
+pub order-not-zero : (t p : ℕ) → orderAnswer t p ≢ Refused 0
+unfolding orderAnswer
+order-not-zero t p = chosen (ltb largestExponent t || ltb largestSpoilage p) 14 (figure t p) (λ z. omega arith)
+
+-- ---- gate lists read
+
+module _ (n : ℕ) where
+  read-on : (t : Bool) (x : ℕ) (y : reading.Reading) → x ≢ 0 → reading.operatorAnswer n y ≢ Refused 0 → reading.operatorAnswer n (cond t (reading.refusal x) y) ≢ Refused 0
+  read-on true x y h k = λ e. h (cc)
+  read-on false x y h k = k
+
+  read-letter : (w : List Gate) (rest : List Gate → reading.Reading) (l : Letter) → ((v : List Gate) → reading.operatorAnswer n (rest v) ≢ Refused 0) → reading.operatorAnswer n (reading.readLetter w rest l) ≢ Refused 0
+  read-letter w rest Unknown k = λ e. let z : _≡_ {A = ℕ} 8 0 = cc in omega arith
+  read-letter w rest (Is g) k =
+      let v = w ++ g ∷ [] in
+      read-on (ltb largestExponent (reading.leastOf v .exponent)) 9 (rest v) (λ z. omega arith) (k v)
+
+  read-from : (w : List Gate) (bs : List ℕ) → reading.operatorAnswer n (reading.readFrom w bs) ≢ Refused 0
+  unfolding reading.readFrom
+  read-from w [] = chosen (ltb n fileLength) 6 (reading.leastOf w .exponent) (λ z. omega arith)
+  read-from w (b ∷ bs) = read-letter w (λ v. reading.readFrom v bs) (gateOf b) (λ v. read-from v bs)
+
+  pub gates-operator-not-zero : (bs : List ℕ) → reading.operatorAnswer n (reading.reading bs) ≢ Refused 0
+  unfolding reading.reading
+  gates-operator-not-zero bs = read-on (ltb reading.largestList (length bs)) 7 (reading.readFrom [] bs) (λ z. omega arith) (read-from [] bs)
+
+-- ---- gate lists written
+
+abbrev Fit : listed.Listed → Type 0
+Fit a = (a ≢ listed.the-variants.Refused 0) × (lettersOf a < 2 ^ 16)
+
+pub gates-fit : (b old new : List ℕ) (a : listed.Listed) → GatesPromise b old new a → (a ≢ listed.the-variants.Refused 0) × (lettersOf a < 2 ^ 16)
+gates-fit b old new a p =
+    elim (ℕ-discrete (fileRefusal b) 0) [
+      | no n ↦ none n (p .refused n .0)
+      | yes z ↦ elim (decLt (length old) (256 * (fileCount b + 1))) [ yes l ↦ none (λ z. omega arith) (p .no-room z l .0) | no l ↦ some z (omega arith) ]
+    ]
+  where
+    none : {n : ℕ} → n ≢ 0 → a ≡ listed.the-variants.Refused n → Fit a
+    none h e = (λ z. h (cc), rw (ap lettersOf e) (omega arith))
+
+    some : fileRefusal b ≡ 0 → 256 * (fileCount b + 1) ≤ length old → Fit a
+    some z l =
+        let (w, h) = p .handed z l in
+        let e = ap lettersOf (h .answer) in
+        let s = h .short in
+        let t = count-small b z in
+        (λ r. let x : _≡_ {A = ℕ} 0 1 = cc in omega arith, omega arith)
