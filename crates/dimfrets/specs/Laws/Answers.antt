@@ -11,10 +11,10 @@ use lib.ListN.{length}
 use borrow.Author.Tests.{eqb-false}
 use Rattle.file.specs.declared.Answer.the-variants.{Count, Refused}
 use Rattle.file.specs.File.{largestExponent, fileLength}
-use Rattle.word.specs.declared.Gate.{Gate}
-use Rattle.word.specs.declared.Letter.{Letter}
-use Rattle.word.specs.declared.Letter.the-variants.{Is, Unknown}
-use Rattle.word.specs.Gate.{gateOf}
+use Rattle.letter.specs.declared.Gate.{Gate}
+use Rattle.letter.specs.declared.Letter.{Letter}
+use Rattle.letter.specs.declared.Letter.the-variants.{Is, Unknown}
+use Rattle.letter.specs.Gate.{gateOf}
 use Rattle.gate.specs.Reading as reading
 use Rattle.operator.specs.declared.Listed as listed
 use Rattle.operator.specs.Acceptance.{fileRefusal}
