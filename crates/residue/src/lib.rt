@@ -49,9 +49,9 @@ pub fn row_masks(m: &[i64; 36]) -> [u8; 6]
 }
 
 // Whether the rows of each pair have equal masks.
-fn pairs_fit(masks: [u8; 6], pairs: [u8; 6]) -> bool
+fn pairs_fit(masks: &[u8; 6], pairs: [u8; 6]) -> bool
     requires { ⌜ AreRows pairs ⌝ }
-    ensures { λ r. ⌜ r ≡ pairsFit masks pairs ⌝ }
+    ensures { λ r. ⌜ r ≡ pairsFit (now (masks .entry)) pairs ⌝ }
 {
     let mut p = 0usize;
     while p < 3 {
@@ -73,7 +73,7 @@ fn first_that_fits(masks: [u8; 6]) -> usize
     let mut g = 1usize;
     while g < 16 {
         let pairs = table[g - 1];
-        if pairs_fit(masks, pairs) {
+        if pairs_fit(&masks, pairs) {
             return g;
         }
         g += 1;

@@ -36,7 +36,7 @@ array-copy-out-pairs c = search needs
 
 pairs-fit-requires : tie.Need-pairs-fit-requires Inv-loop μ-loop
 unfolding table
-pairs-fit-requires c κs = let g = c .before .before .loop .g in subst AreRows (sym (from-zero g)) (are-rows g (omega arith) (omega arith))
+pairs-fit-requires c κs = let g = c .before .before .before .loop .g in subst AreRows (sym (from-zero g)) (are-rows g (omega arith) (omega arith))
 
 -- the test of a turn
 here : (masks : List ℕ) (g : ℕ) (t : Bool) → t ≡ pairsFit masks (getD (map (map (λ x. x - 1)) table) (g - 1) []) → fits (maskAt masks) g ≡ t
@@ -45,8 +45,8 @@ here masks g t e = sym (e ∙ ap (pairsFit masks) (from-zero g) ∙ rows-fit mas
 returns : tie.Need-returns Inv-loop μ-loop
 unfolding table
 returns c =
-    let l = c .before .before .before .before in
-    let masks = l .before .args .masks in
+    let l = c .before .before .before .before .before in
+    let masks = l .before .args .t1 in
     sym (l .loop .inv .2 ∙ first-here (fits (maskAt masks)) 16 (l .loop .g) (omega arith) (here masks (l .loop .g) _ (c .before .pairs-fit .ensures) ∙ c .if1 .taken))
 
 add-g : tie.Need-add-g Inv-loop μ-loop
@@ -58,8 +58,8 @@ loop-less c = search needs
 loop-again : tie.Need-loop-again Inv-loop μ-loop
 unfolding table
 loop-again c =
-    let l = c .before .before .before .before in
-    let masks = l .before .args .masks in
+    let l = c .before .before .before .before .before in
+    let masks = l .before .args .t1 in
     (search needs, search needs, l .loop .inv .2 ∙ first-next (fits (maskAt masks)) 16 (l .loop .g) (omega arith) (here masks (l .loop .g) _ (c .before .pairs-fit .ensures) ∙ c .if1 .left))
 
 returns-2 : tie.Need-returns-2 Inv-loop μ-loop

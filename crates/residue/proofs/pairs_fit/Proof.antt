@@ -6,6 +6,7 @@ use mathlib.Core.Bool.{Bool}
 use mathlib.Core.List.{List}
 use lib.Dec.{eqb}
 use lib.ListN.{getD}
+use denote.Ref.{now}
 use borrow.Author.Tests.{eq-eqb, ne-eqb}
 use Rattle.matrix.specs.Range.{everyFrom}
 use Rattle.matrix.specs.Laws.Range.{every-next, every-stop}
@@ -47,16 +48,16 @@ array-read-j c = search needs
 cast-j : tie.Need-cast-j Inv-loop μ-loop
 cast-j c = search needs
 
-array-read-if1 : tie.Need-array-read-if1 Inv-loop μ-loop
-array-read-if1 c = let l = c .before in l .before .pre (l .loop .p * 2) (omega arith)
+element-copy-out-if1 : tie.Need-element-copy-out-if1 Inv-loop μ-loop
+element-copy-out-if1 c = let l = c .before in l .before .pre (l .loop .p * 2) (omega arith)
 
-array-read-if1-2 : tie.Need-array-read-if1-2 Inv-loop μ-loop
-array-read-if1-2 c = let l = c .before in l .before .pre (l .loop .p * 2 + 1) (omega arith)
+element-copy-out-if1-2 : tie.Need-element-copy-out-if1-2 Inv-loop μ-loop
+element-copy-out-if1-2 c = let l = c .before .before in l .before .pre (l .loop .p * 2 + 1) (omega arith)
 
 returns : tie.Need-returns Inv-loop μ-loop
 returns c =
-    let l = c .before .before in
-    sym (l .loop .inv .1 ∙ every-stop (pair-fits (l .before .args .t1) (l .before .args .t2)) 3 (l .loop .p) (omega arith) (ne-eqb _ _ (c .if1 .taken)))
+    let l = c .before .before .before .before in
+    sym (l .loop .inv .1 ∙ every-stop (pair-fits (now (l .before .args .masks)) (l .before .args .t2)) 3 (l .loop .p) (omega arith) (ne-eqb _ _ (c .if1 .taken)))
 
 add-p : tie.Need-add-p Inv-loop μ-loop
 add-p c = search needs
@@ -66,8 +67,8 @@ loop-less c = search needs
 
 loop-again : tie.Need-loop-again Inv-loop μ-loop
 loop-again c =
-    let l = c .before .before in
-    (search needs, l .loop .inv .1 ∙ every-next (pair-fits (l .before .args .t1) (l .before .args .t2)) 3 (l .loop .p) (omega arith) (eq-eqb _ _ (c .if1 .left)))
+    let l = c .before .before .before .before in
+    (search needs, l .loop .inv .1 ∙ every-next (pair-fits (now (l .before .args .masks)) (l .before .args .t2)) 3 (l .loop .p) (omega arith) (eq-eqb _ _ (c .if1 .left)))
 
 returns-2 : tie.Need-returns-2 Inv-loop μ-loop
 unfolding everyFrom
@@ -87,8 +88,8 @@ pairs-fit-spec =
     add-j
     array-read-j
     cast-j
-    array-read-if1
-    array-read-if1-2
+    element-copy-out-if1
+    element-copy-out-if1-2
     returns
     add-p
     loop-less
