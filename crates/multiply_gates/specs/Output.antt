@@ -1,4 +1,5 @@
--- What `multiply_gates` writes: the operator file of a gate list, or the one line `refused N`.
+-- What `multiply_gates` writes: the operator file of a gate list, or the one line `refused N`. One line feed at the very end of the input is
+-- not read (`withoutLineFeed` of `text`).
 use mathlib.Core.List.{List}
 use Prim.Native.Nat.{ℕ}
 use Rattle.file.specs.File.{fileOf}

@@ -1,15 +1,17 @@
-// Multiplies gates: a gate list on standard input, each byte a letter, and its operator file on standard output.
+// Multiplies gates: a gate list on standard input, with or without a line feed behind it, and its operator file on standard output.
 
 use file::Answer;
 ghost use Rattle.io.specs.Counts.{Counts};
 ghost use Rattle.file.specs.File.{Appended};
 ghost use Rattle.gate.specs.Reading.{reading};
+ghost use Rattle.text.specs.Text.{withoutLineFeed};
 ghost use Rattle.multiply_gates.specs.Output.{outputOf};
 
 // The bytes for a gate list, at the front of `out`.
-fn answer(letters: &[u8], out: &mut [u8; 256]) -> usize
-    ensures { λ r. ⌜ Appended (outputOf (reading (now (letters .entry)))) 0 (now (out .entry)) (now (out .exit)) r × Counts r (now (out .exit)) ⌝ }
+fn answer(input: &[u8], out: &mut [u8; 256]) -> usize
+    ensures { λ r. ⌜ Appended (outputOf (reading (withoutLineFeed (now (input .entry))))) 0 (now (out .entry)) (now (out .exit)) r × Counts r (now (out .exit)) ⌝ }
 {
+    let letters = text::without_line_feed(input);
     let answer = gate::gates_to_operator(letters, out);
     match answer {
         Answer::Count(_) => file::FILE_LENGTH,
@@ -19,9 +21,9 @@ fn answer(letters: &[u8], out: &mut [u8; 256]) -> usize
 
 // A buffer larger than the longest list, so that whatever is longer is seen to be.
 fn main() {
-    let mut letters = io::large_buffer();
-    let length = io::read_full(0, &mut letters);
+    let mut input = io::large_buffer();
+    let length = io::read_full(0, &mut input);
     let mut output = [0u8; 256];
-    let end = answer(&letters[..length], &mut output);
+    let end = answer(&input[..length], &mut output);
     io::write_all(1, &output[..end]);
 }

@@ -2,7 +2,8 @@
 use mathlib.Core.Bool.{Bool, cond, _&&_}
 use mathlib.Core.List.{List, [], _∷_, _++_}
 use Prim.Native.Nat.{ℕ, _+_, _*_, _-_, _/_, _%_}
-use lib.Dec.{leb, ltb}
+use lib.Dec.{eqb, leb, ltb}
+use lib.ListN.{length, getD, take}
 use Rattle.text.specs.declared.Number.{Number}
 use Rattle.text.specs.declared.Number.the-variants.{Is, Unknown}
 
@@ -85,3 +86,13 @@ numberFrom n (b ∷ bs) = cond (isDigit b) (numberFrom (10 * n + (b - 48)) bs) U
 unfoldable pub numberOf : List ℕ → Number
 numberOf [] = Unknown
 numberOf (b ∷ bs) = numberFrom 0 (b ∷ bs)
+
+-- ---- text read
+
+-- whether the last byte is a line feed
+abbrev pub endsInLineFeed : List ℕ → Bool
+endsInLineFeed bs = eqb (getD bs (length bs - 1) 0) 10
+
+-- what people type ends in a line feed: the bytes without one at their very end
+unfoldable pub withoutLineFeed : List ℕ → List ℕ
+withoutLineFeed bs = cond (endsInLineFeed bs) (take (length bs - 1) bs) bs

@@ -7,7 +7,7 @@ ghost use mathlib.Core.List.{[], _∷_};
 ghost use Prim.Native.Nat.{_+_, _*_, _-_, _<_, _≤_};
 ghost use lib.ListN.{length};
 ghost use Rattle.file.specs.File.{Appended};
-ghost use Rattle.text.specs.Text.{decimal, spaced, line, countLine, sheetLine, refusedLine, orderLine, gatesLine, capped, numberOf};
+ghost use Rattle.text.specs.Text.{decimal, spaced, line, countLine, sheetLine, refusedLine, orderLine, gatesLine, capped, numberOf, withoutLineFeed};
 
 const COUNT: [u8; 5] = *b"count";
 
@@ -175,4 +175,18 @@ pub fn read_number(bytes: &[u8]) -> Number
         i += 1;
     }
     Number::Is(n)
+}
+
+// The bytes without one line feed at their very end.
+pub fn without_line_feed(bytes: &[u8]) -> &[u8]
+    ensures { λ r. ⌜ now r ≡ withoutLineFeed (now (bytes .entry)) ⌝ }
+{
+    if bytes.len() == 0 {
+        return bytes;
+    }
+    let last = bytes.len() - 1;
+    if bytes[last] == b'\n' {
+        return &bytes[..last];
+    }
+    bytes
 }
