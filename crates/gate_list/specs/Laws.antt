@@ -1,4 +1,4 @@
 -- Theorems, a file for each subject; a file cites only those above it.
 pub mod List
-pub mod Code
+pub mod Stretches
 pub mod Listing

@@ -1,4 +1,4 @@
 -- Definitions first; the theorems about them are in `Laws/`.
 pub mod List
-pub mod Code
+pub mod Stretches
 pub mod Laws

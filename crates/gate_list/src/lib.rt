@@ -1,19 +1,16 @@
-// The gate list of a normal form, written. The contracts cite specs/List.antt and specs/Code.antt.
+// The gate list of a normal form, written. The contracts cite specs/List.antt and specs/Stretches.antt.
 
 ghost use mathlib.Core.Path.{_≡_};
 ghost use mathlib.Core.Bool.{true};
-ghost use mathlib.Core.List.{List};
 ghost use Prim.Native.Nat.{_+_, _*_, _≤_};
 ghost use lib.ListN.{length, take};
 ghost use Rattle.clifford.specs.Columns.{areColumnBytes};
 ghost use Rattle.reduction.specs.Laws.NormalForm.{Numbers};
-ghost use Rattle.letter.specs.declared.Gate.{Gate};
 ghost use Rattle.letter.specs.Written.{Written};
 ghost use Rattle.gate_list.specs.List.{rightOf, stretch, gateList};
-ghost use Rattle.gate_list.specs.Code.{letterAt, encoded, stretchCodes};
+ghost use Rattle.gate_list.specs.Stretches.{stretchCodes};
 
-// The stretch before generator h, where g is the generator before it, with the C of h: number 15 × (g − 1) + (h − 1). Its letters are octal
-// digits, the first one lowest: 1 to 6 for H, h, S, s, Z, C.
+// The stretch before generator h, where g is the generator before it, with the C of h: number 15 × (g − 1) + (h − 1), as `word_table` has words.
 const STRETCHES: [u64; 225] = [
     0o6,
     0o6442,
@@ -276,48 +273,12 @@ fn right_of(g: usize) -> [u8; 6]
     RIGHTS[g - 1]
 }
 
-// The letter of an octal digit.
-fn letter_at(digit: u64) -> u8
-    ensures { λ r. ⌜ r ≡ letterAt digit ⌝ }
-{
-    match digit {
-        1 => b'H',
-        2 => b'h',
-        3 => b'S',
-        4 => b's',
-        5 => b'Z',
-        6 => b'C',
-        _ => 0,
-    }
-}
-
-// The most letters of a stretch in the table.
-const LONGEST: usize = 18;
-
-// Writes the letters of a number from `at` on and returns the place after them; the rest of the buffer stays.
-fn write_code(code: u64, out: &mut [u8], at: usize) -> usize
-    requires { ⌜ at + 18 ≤ length (now out) ⌝ }
-    ensures { λ r. ⌜ ((w : List Gate) → code ≡ encoded w → length w ≤ 18 → Written w at (now (out .entry)) (now (out .exit)) r) ⌝ }
-{
-    let mut rest = code;
-    let mut i = 0usize;
-    while i < LONGEST {
-        if rest == 0 {
-            return at + i;
-        }
-        out[at + i] = letter_at(rest % 8);
-        rest = rest / 8;
-        i += 1;
-    }
-    at + i
-}
-
 // Writes the stretch between generators g and h, and the C of h.
 fn write_stretch(codes: &[u64; 225], g: usize, h: usize, out: &mut [u8], at: usize) -> usize
     requires { ⌜ (1 ≤ g) × (g ≤ 15) × (1 ≤ h) × (h ≤ 15) × (at + 18 ≤ length (now out)) × (now codes ≡ stretchCodes) ⌝ }
     ensures { λ r. ⌜ Written (stretch (rightOf g) h) at (now (out .entry)) (now (out .exit)) r ⌝ }
 {
-    write_code(codes[(g - 1) * 15 + (h - 1)], out, at)
+    word_table::write_code(codes[(g - 1) * 15 + (h - 1)], out, at)
 }
 
 // The number of CS itself: a generator between two identities, so that the first stretch of a list may stand behind it.

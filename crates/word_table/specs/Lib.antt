@@ -1,2 +1,3 @@
--- Definitions.
-pub mod Tables
+-- Definitions first; the theorems about them are in `Laws/`.
+pub mod Code
+pub mod Laws

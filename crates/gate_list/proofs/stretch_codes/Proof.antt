@@ -4,7 +4,7 @@ use Rattle.matrix.specs.Range.{tabulate}
 use Rattle.clifford.specs.Columns.{isEven}
 use Rattle.word.specs.Word.{partWords, partInverses, localColumns, rotationWords, unsignedWord, cliffordWord}
 use Rattle.gate_list.specs.List.{lefts, rights, leftOf, rightOf}
-use Rattle.gate_list.specs.Code.{stretchCodes}
+use Rattle.gate_list.specs.Stretches.{stretchCodes}
 use Rattle.gate_list.proofs.stretch_codes.Statement.{statement}
 use Rattle.gate_list.proofs.stretch_codes.Tie as tie
 

@@ -4,7 +4,7 @@ use Prim.Native.Nat.{_+_, _*_, _-_}
 use lib.ListN.{getD}
 use borrow.Author.Needs.{needs}
 use Rattle.gate_list.specs.List.{rightOf, stretch}
-use Rattle.gate_list.specs.Laws.Code.{stretch-code, stretch-short}
+use Rattle.gate_list.specs.Laws.Stretches.{stretch-code, stretch-short}
 use Rattle.gate_list.proofs.write_stretch.Statement.{statement}
 use Rattle.gate_list.proofs.write_stretch.Tie as tie
 

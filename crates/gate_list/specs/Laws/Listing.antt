@@ -14,7 +14,7 @@ use Rattle.letter.specs.Written.{Written}
 use Rattle.letter.specs.Laws.Written.{written-as, written-none, written-length, written-append}
 use Rattle.word.specs.Word.{cliffordWord}
 use Rattle.gate_list.specs.List.{rights, leftOf, rightOf, stretch, stretches, gateList}
-use Rattle.gate_list.specs.Laws.Code.{stretch-short}
+use Rattle.gate_list.specs.Laws.Stretches.{stretch-short}
 
 -- the stretches before number n are written, and `before` is the number in front of it
 pub record Listing (gs columns old new : List ℕ) (before at n : ℕ) : Type 0 where
