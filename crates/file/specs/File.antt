@@ -5,10 +5,11 @@ use mathlib.Core.Path.{_≡_}
 use Prim.Native.Nat.{ℕ, zero, suc, _+_, _*_, _-_, _/_, _%_, _<_}
 use lib.Dec.{eqb, ltb}
 use lib.IntN.{ℤ, pos, negsuc, _-ℤ_}
-use lib.ListN.{length, getD, take, drop}
+use lib.ListN.{length, getD, take, drop, replicate}
 use mir.Syntax.{w16}
 use mir.Val.{SFits}
 use Rattle.matrix.specs.Range.{tabulate}
+use Rattle.file.specs.declared.Read.{Read}
 
 -- "k, from 0 to 28"
 abbrev pub largestExponent : ℕ
@@ -55,6 +56,12 @@ fileByte k m (suc p) = let u = bits16 (getD m (p / 2) (pos 0)) in cond (eqb (p %
 -- "73 bytes. Byte 0 is k, from 0 to 28. Then 36 entries"
 unfoldable pub fileOf : ℕ → List ℤ → List ℕ
 fileOf k m = tabulate (fileByte k m) 0 fileLength
+
+-- ---- what is read
+
+-- a refusal, with no operator beside it
+abbrev pub noOperator : ℕ → Read
+noOperator n = record { refusal = n; exponent = 0; matrix = replicate 36 (pos 0) }
 
 -- ---- an output buffer
 

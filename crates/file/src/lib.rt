@@ -6,7 +6,7 @@ ghost use Prim.Native.Nat.{_+_, _*_, _<_, _≤_};
 ghost use lib.ListN.{length};
 ghost use mir.Syntax.{w16};
 ghost use mir.Val.{SFits};
-ghost use Rattle.file.specs.File.{Short, bits16, fileLength, fileMatrix, fileOf, signed16, written};
+ghost use Rattle.file.specs.File.{Short, bits16, fileLength, fileMatrix, fileOf, noOperator, signed16, written};
 
 // The bytes of an operator file.
 pub const FILE_LENGTH: usize = 73;
@@ -18,6 +18,24 @@ pub const LARGEST_EXPONENT: u8 = 28;
 pub enum Answer {
     Count(u8),
     Refused(u8),
+}
+
+// What reading a gate list or a sheet gives: the number of a refusal, or 0 and an operator at its least exponent.
+pub struct Read {
+    pub refusal: u8,
+    pub exponent: u8,
+    pub matrix: [i64; 36],
+}
+
+// A refusal, with no operator beside it.
+pub fn refused(refusal: u8) -> Read
+    ensures { λ r. ⌜ r ≡ noOperator refusal ⌝ }
+{
+    Read {
+        refusal,
+        exponent: 0,
+        matrix: [0; 36],
+    }
 }
 
 // The number whose 16 bits, in two's complement, these two bytes are.

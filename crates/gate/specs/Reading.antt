@@ -16,7 +16,7 @@ use Rattle.letter.specs.declared.Gate.{Gate}
 use Rattle.letter.specs.declared.Letter.{Letter}
 use Rattle.letter.specs.declared.Letter.the-variants.{Is, Unknown}
 use Rattle.letter.specs.Gate.{gateOf}
-use Rattle.gate.specs.declared.Read.{Read}
+use Rattle.file.specs.declared.Read.{Read}
 use Rattle.gate.specs.Product.{image, productOf}
 
 -- "more than 8,192 letters"

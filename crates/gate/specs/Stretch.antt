@@ -4,19 +4,19 @@ use mathlib.Core.Bool.{true, false, not, cond}
 use mathlib.Core.List.{List, _++_}
 use Prim.Native.Nat.{ℕ, _+_, _≤_, _<_}
 use lib.Dec.{ltb}
-use lib.IntN.{ℤ, pos}
-use lib.ListN.{length, getD, drop, replicate}
+use lib.IntN.{ℤ}
+use lib.ListN.{length, getD, drop}
 use Rattle.matrix.specs.declared.Least.{Least}
 use Rattle.matrix.specs.Matrix.{entry, listed, product}
 use Rattle.matrix.specs.Array.{leastForm}
-use Rattle.file.specs.File.{largestExponent}
+use Rattle.file.specs.File.{largestExponent, noOperator}
 use Rattle.clifford.specs.Columns.{columnsMatrix, arePermutation}
 use Rattle.letter.specs.declared.Gate.{Gate}
 use Rattle.letter.specs.declared.Letter.{Letter}
 use Rattle.letter.specs.declared.Letter.the-variants.{Is, Unknown}
 use Rattle.letter.specs.Gate.{isCs, gateOf}
 use Rattle.letter.specs.Composition.{composedGate, identityColumns}
-use Rattle.gate.specs.declared.Read.{Read}
+use Rattle.file.specs.declared.Read.{Read}
 use Rattle.gate.specs.declared.Composed.{Composed}
 use Rattle.gate.specs.declared.Stretch.{Stretch}
 use Rattle.gate.specs.Product.{image}
@@ -61,13 +61,9 @@ pub record StretchOf (bs : List ℕ) (at : ℕ) (r : Stretch) : Type 0 where
 unfoldable pub multiplied : ℕ → List ℤ → Gate → Least
 multiplied k m g = leastForm (k + image g .exponent) (listed (product 6 (entry m) (image g .matrix)))
 
--- a refusal, with no product beside it
-abbrev pub noProduct : ℕ → Read
-noProduct n = record { refusal = n; exponent = 0; matrix = replicate 36 (pos 0) }
-
 -- one letter behind the product (k, m); refusal 0 is none
 abbrev pub readByte : ℕ → List ℤ → Letter → Read
-readByte k m Unknown = noProduct 8
+readByte k m Unknown = noOperator 8
 readByte k m (Is g) =
-    cond (ltb largestExponent (multiplied k m g .exponent)) (noProduct 9)
+    cond (ltb largestExponent (multiplied k m g .exponent)) (noOperator 9)
     (record { refusal = 0; exponent = multiplied k m g .exponent; matrix = multiplied k m g .matrix })

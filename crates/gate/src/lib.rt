@@ -4,6 +4,7 @@
 // touched at C and at the end.
 
 use file::Answer;
+use file::Read;
 use letter::Letter;
 ghost use mathlib.Core.Path.{_≡_};
 ghost use mathlib.Core.Bool.{true};
@@ -16,7 +17,7 @@ ghost use Rattle.clifford.specs.Columns.{arePermutation};
 ghost use Rattle.file.specs.File.{largestExponent};
 ghost use Rattle.letter.specs.Gate.{gateOf};
 ghost use Rattle.gate.specs.Reading.{ReadAs, readFrom};
-ghost use Rattle.gate.specs.Stretch.{ComposedWith, EndsStretch, StretchOf, timesColumns, noProduct, readByte};
+ghost use Rattle.gate.specs.Stretch.{ComposedWith, EndsStretch, StretchOf, timesColumns, readByte};
 ghost use Rattle.gate.specs.Promise.{ProductPromise};
 
 // A byte behind Clifford letters: whether it is one more of them, and the columns of their product.
@@ -65,31 +66,13 @@ fn read_stretch(letters: &[u8], at: usize) -> Stretch
     Stretch { columns, next: n }
 }
 
-// What reading letters gives: the number of a refusal, or 0 and their product at its least exponent.
-pub struct Read {
-    pub refusal: u8,
-    pub exponent: u8,
-    pub matrix: [i64; 36],
-}
-
-// A refusal, with nothing beside it.
-pub fn refused(refusal: u8) -> Read
-    ensures { λ r. ⌜ r ≡ noProduct refusal ⌝ }
-{
-    Read {
-        refusal,
-        exponent: 0,
-        matrix: [0; 36],
-    }
-}
-
 // The byte that ends a stretch, behind a product (k, m) and the stretch's columns.
 fn read_letter(k: u8, m: [i64; 36], columns: [u8; 6], b: u8) -> Read
     requires { ⌜ (k ≤ largestExponent) × Orthogonal (operator k (entry m)) × (arePermutation columns ≡ true) × EndsStretch (gateOf b) ⌝ }
     ensures { λ r. ⌜ r ≡ readByte k (timesColumns m columns) (gateOf b) ⌝ }
 {
     if b != b'C' {
-        return refused(8);
+        return file::refused(8);
     }
     let before = times::times_columns(m, columns);
     let product = times::times_cs(before);
@@ -97,7 +80,7 @@ fn read_letter(k: u8, m: [i64; 36], columns: [u8; 6], b: u8) -> Read
     let exponent = least.exponent;
     let matrix = least.matrix;
     if file::LARGEST_EXPONENT < exponent {
-        return refused(9);
+        return file::refused(9);
     }
     Read {
         refusal: 0,

@@ -1,7 +1,7 @@
 // Sheets read into operator files: refusals 10 to 13 and 6. The contracts cite specs/.
 
 use file::Answer;
-use gate::Read;
+use file::Read;
 ghost use mathlib.Core.Bool.{true, not, cond};
 ghost use mathlib.Core.List.{_++_};
 ghost use mathlib.Core.Path.{_≡_};
@@ -87,17 +87,6 @@ fn is_sheet(bytes: &[u8], count: u8, numbers: [u8; 60], columns: [u8; 6]) -> boo
     true
 }
 
-// A refusal, with nothing beside it.
-fn refused(refusal: u8) -> Read
-    ensures { λ r. ⌜ r .refusal ≡ refusal ⌝ }
-{
-    Read {
-        refusal,
-        exponent: 0,
-        matrix: [0; 36],
-    }
-}
-
 // The operator (count, m) at its least exponent, if cutting it gives these bytes.
 fn cut_again(bytes: &[u8], count: u8, m: [i64; 36]) -> Read
     requires { ⌜ (count ≤ 28) × Orthogonal (operator count (entry m)) ⌝ }
@@ -109,7 +98,7 @@ fn cut_again(bytes: &[u8], count: u8, m: [i64; 36]) -> Read
     let remaining = normal.matrix;
     let columns = clifford::columns_of(remaining);
     if !is_sheet(bytes, t, numbers, columns) {
-        return refused(13);
+        return file::refused(13);
     }
     let least = matrix::least_form(count, m);
     let exponent = least.exponent;
@@ -161,7 +150,7 @@ fn read_sheet(bytes: &[u8]) -> Read
 {
     let refusal = bytes_refusal(bytes);
     if refusal != 0 {
-        return refused(refusal);
+        return file::refused(refusal);
     }
     let count = bytes.len() - 6;
     let columns = columns_from(bytes, count);

@@ -12,7 +12,7 @@ use Rattle.file.specs.declared.Answer.{Answer}
 use Rattle.file.specs.declared.Answer.the-variants.{Count, Refused}
 use Rattle.file.specs.File.{fileLength, fileOf, written, Short}
 use Rattle.file.specs.Laws.File.{orthogonal-short}
-use Rattle.gate.specs.declared.Read.{Read}
+use Rattle.file.specs.declared.Read.{Read}
 use Rattle.gate.specs.Reading.{largestList, leastOf, Reading, gates, refusal, readFrom, reading, ReadAs, operatorAnswer, operatorBuffer}
 use Rattle.gate.specs.Promise.{ProductPromise}
 use Rattle.gate.specs.Laws.Reading.{least-of-orthogonal, promised}

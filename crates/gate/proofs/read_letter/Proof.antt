@@ -12,14 +12,14 @@ use Rattle.matrix.specs.declared.Least.{Least}
 use Rattle.matrix.specs.Matrix.{entry, listed, product}
 use Rattle.matrix.specs.Array.{Bounded, leastForm}
 use Rattle.matrix.specs.Laws.Array.{orthogonal-bounded}
-use Rattle.file.specs.File.{largestExponent}
+use Rattle.file.specs.File.{largestExponent, noOperator}
 use Rattle.residue.specs.Generator.{generator}
 use Rattle.letter.specs.declared.Gate.the-variants.{Cs}
 use Rattle.letter.specs.declared.Letter.the-variants.{Is}
 use Rattle.letter.specs.Gate.{gateOf}
 use Rattle.letter.specs.Laws.Gate.{gate-of-letter}
 use Rattle.gate.specs.Product.{image}
-use Rattle.gate.specs.Stretch.{timesColumns, multiplied, noProduct, readByte}
+use Rattle.gate.specs.Stretch.{timesColumns, multiplied, readByte}
 use Rattle.gate.specs.Laws.Stretch.{held-orthogonal, no-letter}
 use Rattle.gate.proofs.read_letter.Statement.{statement}
 use Rattle.gate.proofs.read_letter.Tie as tie
@@ -36,7 +36,7 @@ module _ (k : ℕ) (m : List ℤ) (b : ℕ) (is : b ≡ 67) (f : Least) (e : f �
   test : (t : Bool) → ltb largestExponent (f .exponent) ≡ t → ltb largestExponent (multiplied k m Cs .exponent) ≡ t
   test t h = ap (λ (x : Least). ltb largestExponent (x .exponent)) (sym more) ∙ h
 
-  deep : largestExponent < f .exponent → noProduct 9 ≡ readByte k m (gateOf b)
+  deep : largestExponent < f .exponent → noOperator 9 ≡ readByte k m (gateOf b)
   deep h = rw (known, test true (lt-ltb largestExponent (f .exponent) h)) refl
 
   shallow : f .exponent ≤ largestExponent → record { refusal = 0; exponent = f .exponent; matrix = f .matrix } ≡ readByte k m (gateOf b)

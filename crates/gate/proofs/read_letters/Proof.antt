@@ -19,7 +19,7 @@ use Rattle.file.specs.File.{largestExponent}
 use Rattle.letter.specs.declared.Gate.{Gate}
 use Rattle.letter.specs.Gate.{gateOf}
 use Rattle.letter.specs.Composition.{identityColumns}
-use Rattle.gate.specs.declared.Read.{Read}
+use Rattle.file.specs.declared.Read.{Read}
 use Rattle.gate.specs.declared.Stretch.{Stretch}
 use Rattle.gate.specs.Product.{productOf}
 use Rattle.gate.specs.Reading.{Reading, leastOf, readLetter, readFrom, ReadAs}

@@ -20,7 +20,7 @@ use Rattle.matrix.specs.Laws.Matrix.{same-refl, product-cong, product-assoc, pr
 use Rattle.matrix.specs.Laws.Operator.{same-operator-refl, same-operator-sym, same-operator-trans, same-operator-of, times-same, times-orthogonal, same-orthogonal}
 use Rattle.matrix.specs.Laws.Array.{operatorOf, entry-listed, listed-is, listed-cong, listed-same, length-listed, same-least-form}
 use Rattle.matrix.specs.Laws.Right.{least-right}
-use Rattle.file.specs.File.{largestExponent}
+use Rattle.file.specs.File.{largestExponent, noOperator}
 use Rattle.clifford.specs.Columns.{columnsMatrix, arePermutation}
 use Rattle.clifford.specs.Laws.Columns.{permutation-sound, columns-orthogonal}
 use Rattle.letter.specs.declared.Gate.{Gate}
@@ -31,11 +31,11 @@ use Rattle.letter.specs.Gate.{gateOf, columns, isCs}
 use Rattle.letter.specs.Composition.{composed, identityColumns}
 use Rattle.letter.specs.Laws.Gate.{letter-of-gate}
 use Rattle.letter.specs.Laws.Matrix.{unit-matrix, composed-matrix, composed-permutation}
-use Rattle.gate.specs.declared.Read.{Read}
+use Rattle.file.specs.declared.Read.{Read}
 use Rattle.gate.specs.declared.Composed.{Composed}
 use Rattle.gate.specs.Product.{image, productOf}
 use Rattle.gate.specs.Reading.{Reading, refusal, leastOf, readLetter, readFrom}
-use Rattle.gate.specs.Stretch.{timesColumns, held, ComposedWith, EndsStretch, CliffordLetters, multiplied, noProduct, readByte}
+use Rattle.gate.specs.Stretch.{timesColumns, held, ComposedWith, EndsStretch, CliffordLetters, multiplied, readByte}
 use Rattle.gate.specs.Laws.Product.{product-orthogonal, image-orthogonal, product-append}
 use Rattle.gate.specs.Laws.Reading.{least-of-same, least-of-orthogonal, least-of-reduced, least-of-long}
 
@@ -202,7 +202,7 @@ module _ (w : List Gate) (rest : List Gate → Reading) where
   onward (Is g) r e z = go (ltb largestExponent (multiplied (leastOf w .exponent) (leastOf w .matrix) g .exponent)) refl e
     where
       go : (t : Bool) → ltb largestExponent (multiplied (leastOf w .exponent) (leastOf w .matrix) g .exponent) ≡ t
-          → r ≡ cond t (noProduct 9)
+          → r ≡ cond t (noOperator 9)
           (record { refusal = 0; exponent = multiplied (leastOf w .exponent) (leastOf w .matrix) g .exponent; matrix = multiplied (leastOf w .exponent) (leastOf w .matrix) g .matrix })
           → Onward (Is g) r
       go true t e = let n : _≡_ {A = ℕ} (r .refusal) 9 = ap (λ (x : Read). x .refusal) e in absurd (omega arith)
@@ -219,7 +219,7 @@ module _ (w : List Gate) (rest : List Gate → Reading) where
   stopped (Is g) r e z = go (ltb largestExponent (multiplied (leastOf w .exponent) (leastOf w .matrix) g .exponent)) refl e
     where
       go : (t : Bool) → ltb largestExponent (multiplied (leastOf w .exponent) (leastOf w .matrix) g .exponent) ≡ t
-          → r ≡ cond t (noProduct 9)
+          → r ≡ cond t (noOperator 9)
           (record { refusal = 0; exponent = multiplied (leastOf w .exponent) (leastOf w .matrix) g .exponent; matrix = multiplied (leastOf w .exponent) (leastOf w .matrix) g .matrix })
           → readLetter w rest (Is g) ≡ refusal (r .refusal)
       go true t e = rw (one-test g true t) (ap refusal (sym (ap (λ (x : Read). x .refusal) e)))

@@ -21,7 +21,7 @@ use Rattle.reduction.specs.declared.Normal.{Normal}
 use Rattle.reduction.specs.Reduction.{count, taken, sheet}
 use Rattle.reduction.specs.Result.{WholeOf}
 use Rattle.reduction.specs.Laws.NormalForm.{cutting}
-use Rattle.gate.specs.declared.Read.{Read}
+use Rattle.file.specs.declared.Read.{Read}
 use Rattle.sheet.specs.Promise.{CutAgain}
 use borrow.Author.Needs.{needs}
 use borrow.Author.Tests.{not-true, not-false}
@@ -70,7 +70,7 @@ returns : tie.Need-returns
 returns c =
     let n = c .before .before .before .before .before .before in
     let s = n .before .before in
-    another (now (s .args .bytes)) (s .args .count) (s .args .m) (s .pre .1) (n .normal-form .result) (n .normal-form .ensures) _ (c .before .before .before .columns-of .ensures) _ (c .before .before .is-sheet .ensures) (c .before .if1 .taken) (c .refused .result) (c .refused .ensures)
+    another (now (s .args .bytes)) (s .args .count) (s .args .m) (s .pre .1) (n .normal-form .result) (n .normal-form .ensures) _ (c .before .before .before .columns-of .ensures) _ (c .before .before .is-sheet .ensures) (c .before .if1 .taken) (c .refused .result) (ap (λ (r : Read). r .refusal) (c .refused .ensures))
 
 least-form-requires : tie.Need-least-form-requires
 least-form-requires c κs = search needs

@@ -12,7 +12,7 @@ use Rattle.matrix.specs.Matrix.{entry, listed}
 use Rattle.matrix.specs.Operator.{operator, Orthogonal}
 use Rattle.clifford.specs.Columns.{columnsMatrix}
 use Rattle.reduction.specs.Reduction.{normalForm, sheetNumbers, sheetColumns, sheetOperator}
-use Rattle.gate.specs.declared.Read.{Read}
+use Rattle.file.specs.declared.Read.{Read}
 use Rattle.sheet.specs.Sheet.{bytesRefusal, sheetRefusal, sheetLeast}
 use Rattle.sheet.specs.Promise.{CutAgain, SheetRead}
 use Rattle.sheet.specs.Laws.Sheet.{InForm, in-form, in-form-refusal, out-of-form, sheet-exponent, sheet-orthogonal, same-again}
@@ -53,7 +53,7 @@ refused-requires c κs = search needs
 returns : tie.Need-returns
 returns c =
     let e = c .before .before .bytes-refusal .ensures in
-    turned-away _ _ (λ z. c .before .if1 .taken (e ∙ z)) (c .refused .ensures ∙ e)
+    turned-away _ _ (λ z. c .before .if1 .taken (e ∙ z)) (ap (λ (r : Read). r .refusal) (c .refused .ensures) ∙ e)
 
 sub-count : tie.Need-sub-count
 sub-count c = let f = formed c in omega arith
