@@ -1,7 +1,7 @@
 -- What the call from a gate list to an operator file promises.
 use mathlib.Core.Path.{_≡_}
 use mathlib.Core.List.{List, _∷_, _++_, map}
-use Prim.Native.Nat.{ℕ, _<_, _≤_}
+use Prim.Native.Nat.{ℕ, _<_}
 use lib.ListN.{length, take}
 use Rattle.matrix.specs.Operator.{LeastExponent}
 use Rattle.matrix.specs.Laws.Array.{operatorOf}

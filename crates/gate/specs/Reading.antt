@@ -4,10 +4,9 @@ use mathlib.Core.Path.{_≡_}
 use mathlib.Core.List.{List, [], _∷_, _++_}
 use Prim.Native.Nat.{ℕ, _+_, _≤_}
 use lib.Dec.{ltb}
-use lib.IntN.{ℤ}
 use lib.ListN.{length}
 use Rattle.matrix.specs.declared.Least.{Least}
-use Rattle.matrix.specs.Matrix.{entry, listed, product}
+use Rattle.matrix.specs.Matrix.{listed}
 use Rattle.matrix.specs.Array.{leastForm}
 use Rattle.file.specs.declared.Answer.{Answer}
 use Rattle.file.specs.declared.Answer.the-variants.{Count, Refused}
@@ -17,7 +16,7 @@ use Rattle.letter.specs.declared.Letter.{Letter}
 use Rattle.letter.specs.declared.Letter.the-variants.{Is, Unknown}
 use Rattle.letter.specs.Gate.{gateOf}
 use Rattle.file.specs.declared.Read.{Read}
-use Rattle.gate.specs.Product.{image, productOf}
+use Rattle.gate.specs.Product.{productOf}
 
 -- "more than 8,192 letters"
 abbrev pub largestList : ℕ

@@ -4,7 +4,7 @@
 -- which of columns 4 to 6 these are, and ZZ where the sign is −1.
 use mathlib.Core.Bool.{Bool, true, false, not, cond}
 use mathlib.Core.List.{List, [], _∷_, _++_, map}
-use Prim.Native.Nat.{ℕ, _+_, _-_, _*_, _%_}
+use Prim.Native.Nat.{ℕ, _+_, _*_, _%_}
 use lib.Dec.{ltb}
 use lib.ListN.{getD}
 use Rattle.clifford.specs.Columns.{rowOf, isMinus, isEven}

@@ -1,6 +1,5 @@
 // The tables of words, and the word of a Clifford written from them. The contracts cite the definitions of `word` and of specs/Code.antt.
 
-ghost use mathlib.Core.Bool.{Bool};
 ghost use mathlib.Core.List.{List, []};
 ghost use mathlib.Core.Path.{_≡_};
 ghost use Prim.Native.Nat.{_+_, _<_, _≤_};

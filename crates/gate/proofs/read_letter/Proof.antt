@@ -1,5 +1,5 @@
 -- Behind a stretch only C is a letter, and the test on the exponent is the definition's.
-use mathlib.Core.Path.{_≡_, refl, sym, ap, ap₂, _∙_}
+use mathlib.Core.Path.{_≡_, refl, sym, ap, _∙_}
 use mathlib.Core.Bool.{Bool, true, false}
 use mathlib.Core.List.{List}
 use Prim.Native.Nat.{ℕ, _+_, _<_, _≤_}
@@ -10,7 +10,7 @@ use borrow.Author.Needs.{needs}
 use borrow.Author.Tests.{lt-ltb, le-ltb}
 use Rattle.matrix.specs.declared.Least.{Least}
 use Rattle.matrix.specs.Matrix.{entry, listed, product}
-use Rattle.matrix.specs.Array.{Bounded, leastForm}
+use Rattle.matrix.specs.Array.{leastForm}
 use Rattle.matrix.specs.Laws.Array.{orthogonal-bounded}
 use Rattle.file.specs.File.{largestExponent, noOperator}
 use Rattle.residue.specs.Generator.{generator}

@@ -24,7 +24,7 @@ use Rattle.letter.specs.Gate.{letter, gateOf}
 use Rattle.letter.specs.Laws.Gate.{letter-of-gate}
 use Rattle.gate.specs.Product.{productOf}
 use Rattle.gate.specs.Reading.{largestList, Reading, gates, refusal, leastOf, readLetter, readFrom, reading, operatorAnswer, operatorBuffer}
-use Rattle.gate.specs.Promise.{ReadInto, Deep, Beginning, EarnsNine, EarnsEight, ProductPromise}
+use Rattle.gate.specs.Promise.{ReadInto, Deep, EarnsNine, EarnsEight, ProductPromise}
 use Rattle.gate.specs.Laws.Product.{product-orthogonal}
 
 -- the product and its least form stand for the same matrix

@@ -13,7 +13,7 @@ use lib.ListN.{length, getD, drop}
 use lib.Seq.{drop-cons}
 use borrow.Author.Tests.{ltb-false, le-ltb}
 use Rattle.matrix.specs.declared.Least.{Least}
-use Rattle.matrix.specs.Matrix.{Same, δ, entry, listed, product}
+use Rattle.matrix.specs.Matrix.{entry, listed, product}
 use Rattle.matrix.specs.Operator.{Operator, operator, timesOperator, SameOperator, Orthogonal}
 use Rattle.matrix.specs.Array.{leastForm}
 use Rattle.matrix.specs.Laws.Matrix.{same-refl, product-cong, product-assoc, product-id-r}

@@ -9,7 +9,7 @@ use lib.Seq.{length-take-le, getD-take, drop-cons, drop-length}
 use Rattle.reduction.specs.Laws.NormalForm.{Numbers}
 use Rattle.letter.specs.declared.Gate.{Gate}
 use Rattle.letter.specs.declared.Gate.the-variants.{Cs}
-use Rattle.letter.specs.Composition.{composed, identityColumns}
+use Rattle.letter.specs.Composition.{composed}
 use Rattle.letter.specs.Written.{Written}
 use Rattle.letter.specs.Laws.Written.{written-as, written-none, written-length, written-append}
 use Rattle.word.specs.Word.{cliffordWord}

@@ -1,14 +1,14 @@
 -- Signed permutations and the bytes of their columns: six bytes that are a permutation come from the data type, and the product by bytes
 -- is the product.
 use mathlib.Core.Path.{_≡_, refl, subst}
-use mathlib.Core.Bool.{Bool, true, false, not, _&&_, _||_}
+use mathlib.Core.Bool.{Bool, true, false, _&&_, _||_}
 use mathlib.Core.List.{List, [], _∷_}
 use Prim.Native.Nat.{ℕ, zero, suc, _+_, _-_, _<_, _≤_}
 use native.Mathlib.Omega.{arith}
 use lib.Dec.{eqb, leb}
 use lib.ListN.{getD, length}
 use borrow.Author.Tests.{eqb-true, leb-true}
-use Rattle.clifford.specs.Columns.{rowOf, isMinus, isColumnByte, areColumnBytes, arePermutation}
+use Rattle.clifford.specs.Columns.{rowOf, isColumnByte, areColumnBytes, arePermutation}
 use Rattle.letter.specs.Composition.{negated, imageOf, composed}
 use Rattle.letter.specs.Laws.Signed.{Axis, e1, e2, e3, e4, e5, e6, Column, col, Perm, perm, turned, apply, times, rowNumber, toByte, fromByte, bytes, fromBytes}
 use Rattle.matrix.specs.Laws.Test.{and-left, and-right}

@@ -1,12 +1,12 @@
 -- The invariant: in the columns before c the rows are as they are to be, and from c on as they were.
 use mathlib.Core.List.{List}
-use mathlib.Core.Path.{_≡_, ap, _∙_}
+use mathlib.Core.Path.{_≡_, _∙_}
 use Prim.Native.Nat.{ℕ, _+_, _*_, _-_, _^_, _≤_, _<_}
 use native.Mathlib.Omega.{arith}
 use borrow.Author.Needs.{needs}
 use denote.Ref.{now}
-use lib.IntN.{ℤ, pos, natAbs, _+ℤ_, _-ℤ_}
-use lib.ListN.{length, getD, set, length-set}
+use lib.IntN.{ℤ, natAbs, _+ℤ_, _-ℤ_}
+use lib.ListN.{length, set, length-set}
 use Rattle.matrix.specs.Integer.{half}
 use Rattle.matrix.specs.Matrix.{entry}
 use Rattle.matrix.specs.Array.{Bounded, halfSums, halfPair}

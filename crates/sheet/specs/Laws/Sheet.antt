@@ -9,13 +9,12 @@ use lib.Dec.{leb, ltb}
 use lib.ListN.{length, getD, take}
 use lib.Seq.{length-take-le, getD-take}
 use borrow.Author.Tests.{leb-true, ltb-false, le-ltb}
-use Rattle.matrix.specs.List.{sameList}
 use Rattle.matrix.specs.Range.{every}
 use Rattle.matrix.specs.Matrix.{Matrix, entry, listed}
-use Rattle.matrix.specs.Operator.{Operator, operator, SameOperator, Orthogonal, LeastExponent}
+use Rattle.matrix.specs.Operator.{operator, SameOperator, Orthogonal, LeastExponent}
 use Rattle.matrix.specs.Laws.Test.{and-left, and-right, same-list}
 use Rattle.matrix.specs.Laws.Range.{every-sound}
-use Rattle.matrix.specs.Laws.Operator.{same-operator-sym, same-operator-trans, same-operator-of, times-orthogonal, same-orthogonal, least-same}
+use Rattle.matrix.specs.Laws.Operator.{same-operator-sym, same-operator-trans, times-orthogonal, same-orthogonal, least-same}
 use Rattle.matrix.specs.Laws.Array.{operatorOf, listed-same, least-form, least-orthogonal, least-exponent}
 use Rattle.clifford.specs.Columns.{columnsMatrix, areColumnBytes, arePermutation, isEven}
 use Rattle.clifford.specs.Laws.Columns.{permutation-sound, columns-orthogonal}
