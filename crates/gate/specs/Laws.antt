@@ -2,3 +2,4 @@
 pub mod Product
 pub mod Reading
 pub mod Stretch
+pub mod Letters
