@@ -2,17 +2,16 @@
 use Prim.Native.Nat.{_-_, _≤_}
 use lib.ListN.{length}
 use borrow.Author.Needs.{needs}
-use Rattle.trial.proofs.show_sheet.Statement.{statement}
-use Rattle.trial.proofs.show_sheet.Tie as tie
+use Rattle.show.proofs.show_sheet.Statement.{statement}
+use Rattle.show.proofs.show_sheet.Tie as tie
+use Rattle.show.proofs.show.Reads as show-reads
+use Rattle.show.proofs.show_number.Reads as show-number-reads
 
 abbrev Inv-loop : tie.InvT-loop
-Inv-loop sheet n₀ t4 n = n ≤ length sheet
+Inv-loop word sheet n₀ t4 n = n ≤ length sheet
 
 abbrev μ-loop : tie.MeasureT-loop
-μ-loop sheet n₀ t4 n = length sheet - n
-
-slice-aggregate-show : tie.Need-slice-aggregate-show Inv-loop μ-loop
-slice-aggregate-show c = search needs
+μ-loop word sheet n₀ t4 n = length sheet - n
 
 show-requires : tie.Need-show-requires Inv-loop μ-loop
 show-requires c κs = search needs
@@ -47,7 +46,6 @@ show-sheet-spec =
     (tie.spec
     Inv-loop
     μ-loop
-    slice-aggregate-show
     show-requires
     loop-holds
     slice-aggregate-show-number
