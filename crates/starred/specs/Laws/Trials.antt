@@ -14,7 +14,7 @@ use Rattle.reduction.specs.Reduction.{generators, remainder, sheet, normalForm}
 use Rattle.gate.specs.Product.{image, productOf}
 use Rattle.operator.specs.Acceptance.{fileRefusal}
 use Rattle.sheet.specs.Sheet.{sheetRefusal}
-use Rattle.trial.specs.Trials.{trials, allPass}
+use Rattle.starred.specs.Trials.{trials, allPass}
 
 pub trials-pass : allPass trials ≡ true
 unfolding trials parity sum everyFrom firstFrom tabulate bits total δ replaced listed skip det pow lib.IntN.one isOrthogonal isWithin rowMask allEven leastForm fileMatrix fileOf isEven arePermutation columnByte table place generator fits firstFit generators remainder sheet normalForm image productOf fileRefusal sheetRefusal
