@@ -14,10 +14,10 @@ fn answer(file: &[u8], out: &mut [u8; 256]) -> usize
     match answer {
         Answer::Count(count) => {
             let end = count as usize + 6;
-            let next = text::write_count(count, out, 0);
-            text::write_sheet(&sheet[..end], out, next)
+            let next = line::write_count(count, out, 0);
+            line::write_sheet(&sheet[..end], out, next)
         }
-        Answer::Refused(refusal) => text::write_refused(refusal, out, 0),
+        Answer::Refused(refusal) => line::write_refused(refusal, out, 0),
     }
 }
 

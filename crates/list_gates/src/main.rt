@@ -12,10 +12,10 @@ fn answer(file: &[u8], out: &mut [u8; 8192]) -> usize
     let answer = operator::operator_to_gates(file, &mut gates);
     match answer {
         Listed::Letters { count, letters } => {
-            let next = text::write_count(count, out, 0);
-            text::write_gates(&gates[..letters], out, next)
+            let next = line::write_count(count, out, 0);
+            line::write_gates(&gates[..letters], out, next)
         }
-        Listed::Refused(refusal) => text::write_refused(refusal, out, 0),
+        Listed::Refused(refusal) => line::write_refused(refusal, out, 0),
     }
 }
 

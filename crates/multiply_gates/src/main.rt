@@ -15,7 +15,7 @@ fn answer(input: &[u8], out: &mut [u8; 256]) -> usize
     let answer = gate::gates_to_operator(letters, out);
     match answer {
         Answer::Count(_) => file::FILE_LENGTH,
-        Answer::Refused(refusal) => text::write_refused(refusal, out, 0),
+        Answer::Refused(refusal) => line::write_refused(refusal, out, 0),
     }
 }
 

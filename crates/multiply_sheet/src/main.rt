@@ -12,7 +12,7 @@ fn answer(bytes: &[u8], out: &mut [u8; 256]) -> usize
     let answer = sheet::sheet_to_operator(bytes, out);
     match answer {
         Answer::Count(_) => file::FILE_LENGTH,
-        Answer::Refused(refusal) => text::write_refused(refusal, out, 0),
+        Answer::Refused(refusal) => line::write_refused(refusal, out, 0),
     }
 }
 

@@ -14,8 +14,8 @@ fn order_line(t: u64, p: u64, out: &mut [u8; 32]) -> usize
 {
     let answer = order::states_to_order(t, p);
     match answer {
-        Answer::Count(states) => text::write_order(states, out, 0),
-        Answer::Refused(refusal) => text::write_refused(refusal, out, 0),
+        Answer::Count(states) => line::write_order(states, out, 0),
+        Answer::Refused(refusal) => line::write_refused(refusal, out, 0),
     }
 }
 

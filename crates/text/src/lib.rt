@@ -1,4 +1,4 @@
-// The lines that the programs print, written into a lent buffer, and decimal numbers read. The contracts cite specs/Text.antt.
+// Text written into a lent buffer, and read: bytes, decimal numbers, a line of a word and numbers. The contracts cite specs/Text.antt.
 //
 // A function that writes takes the place where it begins and returns the place after what it wrote; the other bytes stay.
 
@@ -7,20 +7,10 @@ ghost use mathlib.Core.List.{[], _∷_};
 ghost use Prim.Native.Nat.{_+_, _*_, _-_, _<_, _≤_};
 ghost use lib.ListN.{length};
 ghost use Rattle.file.specs.File.{Appended};
-ghost use Rattle.text.specs.Text.{decimal, spaced, line, countLine, sheetLine, refusedLine, orderLine, gatesLine, capped, numberOf, withoutLineFeed};
-
-const COUNT: [u8; 5] = *b"count";
-
-const SHEET: [u8; 5] = *b"sheet";
-
-const REFUSED: [u8; 7] = *b"refused";
-
-const ORDER: [u8; 5] = *b"order";
-
-const GATES: [u8; 6] = *b"gates ";
+ghost use Rattle.text.specs.Text.{decimal, spaced, line, capped, numberOf, withoutLineFeed};
 
 // One byte.
-fn write_byte(b: u8, out: &mut [u8], at: usize) -> usize
+pub fn write_byte(b: u8, out: &mut [u8], at: usize) -> usize
     requires { ⌜ at < length (now out) ⌝ }
     ensures { λ r. ⌜ Appended (b ∷ []) at (now (out .entry)) (now (out .exit)) r ⌝ }
 {
@@ -29,7 +19,7 @@ fn write_byte(b: u8, out: &mut [u8], at: usize) -> usize
 }
 
 // Bytes as they are.
-fn write_bytes(bytes: &[u8], out: &mut [u8], at: usize) -> usize
+pub fn write_bytes(bytes: &[u8], out: &mut [u8], at: usize) -> usize
     requires { ⌜ at + length (now bytes) ≤ length (now out) ⌝ }
     ensures { λ r. ⌜ Appended (now (bytes .entry)) at (now (out .entry)) (now (out .exit)) r ⌝ }
 {
@@ -84,54 +74,12 @@ fn write_spaced(numbers: &[u8], out: &mut [u8], at: usize) -> usize
 }
 
 // A line of a word and numbers.
-fn write_line(word: &[u8], numbers: &[u8], out: &mut [u8], at: usize) -> usize
+pub fn write_line(word: &[u8], numbers: &[u8], out: &mut [u8], at: usize) -> usize
     requires { ⌜ at + length (line (now word) (now numbers)) ≤ length (now out) ⌝ }
     ensures { λ r. ⌜ Appended (line (now (word .entry)) (now (numbers .entry))) at (now (out .entry)) (now (out .exit)) r ⌝ }
 {
     let after = write_bytes(word, out, at);
     let end = write_spaced(numbers, out, after);
-    write_byte(b'\n', out, end)
-}
-
-// The line of a count.
-pub fn write_count(t: u8, out: &mut [u8], at: usize) -> usize
-    requires { ⌜ at + length (countLine t) ≤ length (now out) ⌝ }
-    ensures { λ r. ⌜ Appended (countLine t) at (now (out .entry)) (now (out .exit)) r ⌝ }
-{
-    write_line(&COUNT, &[t], out, at)
-}
-
-// The line of a sheet.
-pub fn write_sheet(sheet: &[u8], out: &mut [u8], at: usize) -> usize
-    requires { ⌜ at + length (sheetLine (now sheet)) ≤ length (now out) ⌝ }
-    ensures { λ r. ⌜ Appended (sheetLine (now (sheet .entry))) at (now (out .entry)) (now (out .exit)) r ⌝ }
-{
-    write_line(&SHEET, sheet, out, at)
-}
-
-// The line of a refusal.
-pub fn write_refused(n: u8, out: &mut [u8], at: usize) -> usize
-    requires { ⌜ at + length (refusedLine n) ≤ length (now out) ⌝ }
-    ensures { λ r. ⌜ Appended (refusedLine n) at (now (out .entry)) (now (out .exit)) r ⌝ }
-{
-    write_line(&REFUSED, &[n], out, at)
-}
-
-// The line of the states to order.
-pub fn write_order(n: u8, out: &mut [u8], at: usize) -> usize
-    requires { ⌜ at + length (orderLine n) ≤ length (now out) ⌝ }
-    ensures { λ r. ⌜ Appended (orderLine n) at (now (out .entry)) (now (out .exit)) r ⌝ }
-{
-    write_line(&ORDER, &[n], out, at)
-}
-
-// The line of a gate list.
-pub fn write_gates(letters: &[u8], out: &mut [u8], at: usize) -> usize
-    requires { ⌜ at + length (gatesLine (now letters)) ≤ length (now out) ⌝ }
-    ensures { λ r. ⌜ Appended (gatesLine (now (letters .entry))) at (now (out .entry)) (now (out .exit)) r ⌝ }
-{
-    let after = write_bytes(&GATES, out, at);
-    let end = write_bytes(letters, out, after);
     write_byte(b'\n', out, end)
 }
 

@@ -5,8 +5,8 @@ use denote.Ref.{now}
 use lib.ListN.{length-append}
 use Rattle.file.specs.Laws.Written.{appended-length, appended-append}
 use borrow.Author.Needs.{needs}
-use Rattle.text.proofs.write_gates.Statement.{statement}
-use Rattle.text.proofs.write_gates.Tie as tie
+use Rattle.line.proofs.write_gates.Statement.{statement}
+use Rattle.line.proofs.write_gates.Tie as tie
 
 slice-aggregate-write-bytes : tie.Need-slice-aggregate-write-bytes
 slice-aggregate-write-bytes c = search needs
