@@ -9,6 +9,8 @@ use lib.ListN.{length, getD, take, drop, replicate}
 use mir.Syntax.{w16}
 use mir.Val.{SFits}
 use Rattle.matrix.specs.Range.{tabulate}
+use Rattle.matrix.specs.Matrix.{entry}
+use Rattle.matrix.specs.Operator.{Operator, operator}
 use Rattle.file.specs.declared.Read.{Read}
 
 -- "k, from 0 to 28"
@@ -36,6 +38,10 @@ fileEntry b n = signed16 (getD b (1 + 2 * n) 0 + 256 * getD b (2 + 2 * n) 0)
 -- "36 entries"
 unfoldable pub fileMatrix : List ℕ → List ℤ
 fileMatrix b = tabulate (fileEntry b) 0 36
+
+-- the operator of a file
+abbrev pub fileOperator : List ℕ → Operator
+fileOperator b = operator (fileExponent b) (entry (fileMatrix b))
 
 -- ---- the file of an operator
 

@@ -4,22 +4,22 @@ use mathlib.Core.List.{List, _∷_, _++_, map}
 use Prim.Native.Nat.{ℕ, _<_}
 use lib.ListN.{length, take}
 use Rattle.matrix.specs.Operator.{LeastExponent}
-use Rattle.matrix.specs.Laws.Array.{operatorOf}
 use Rattle.file.specs.declared.Answer.{Answer}
 use Rattle.file.specs.declared.Answer.the-variants.{Refused}
-use Rattle.file.specs.File.{largestExponent}
+use Rattle.file.specs.File.{largestExponent, fileExponent, fileOperator}
 use Rattle.letter.specs.declared.Gate.{Gate}
 use Rattle.letter.specs.declared.Letter.the-variants.{Unknown}
 use Rattle.letter.specs.Gate.{letter, gateOf}
 use Rattle.gate.specs.Product.{productOf, MultipliesTo}
-use Rattle.gate.specs.Reading.{gates, leastOf, reading, operatorAnswer, operatorBuffer}
+use Rattle.gate.specs.Reading.{gates, productFile, reading, operatorAnswer, operatorBuffer}
 
 -- the list bs is read as the gates w
 pub record ReadInto (bs : List ℕ) (w : List Gate) : Type 0 where
   pub letters : bs ≡ map letter w
-  -- demand 2: "a gate list read in gives exactly its product over the least power of root two"
-  pub multiplies : MultipliesTo w (operatorOf (leastOf w))
-  pub least : LeastExponent (productOf w) (leastOf w .exponent)
+  -- demand 2: "a gate list read in gives exactly its product over the least power of root two": the file that is written has the product's
+  -- operator, and its exponent is the product's least one
+  pub multiplies : MultipliesTo w (fileOperator (productFile w))
+  pub least : LeastExponent (productOf w) (fileExponent (productFile w))
 
 -- "whose product has a least exponent above 28"
 pub record Deep (w : List Gate) : Type 0 where

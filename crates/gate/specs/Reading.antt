@@ -51,6 +51,10 @@ abbrev pub ReadAs : Reading → Read → Type 0
 ReadAs (gates w) r = (r .refusal ≡ 0) × (r .exponent ≡ leastOf w .exponent) × (r .matrix ≡ leastOf w .matrix) × (leastOf w .exponent ≤ largestExponent)
 ReadAs (refusal n) r = (r .refusal ≡ n) × (1 ≤ n)
 
+-- the operator file of a list's product
+abbrev pub productFile : List Gate → List ℕ
+productFile w = fileOf (leastOf w .exponent) (leastOf w .matrix)
+
 -- the answer, where the lent buffer has n bytes
 abbrev pub operatorAnswer : ℕ → Reading → Answer
 operatorAnswer n (gates w) = cond (ltb n fileLength) (Refused 6) (Count (leastOf w .exponent))
@@ -58,5 +62,5 @@ operatorAnswer n (refusal r) = Refused r
 
 -- the buffer afterwards
 abbrev pub operatorBuffer : List ℕ → Reading → List ℕ
-operatorBuffer old (gates w) = cond (ltb (length old) fileLength) old (written old (fileOf (leastOf w .exponent) (leastOf w .matrix)))
+operatorBuffer old (gates w) = cond (ltb (length old) fileLength) old (written old (productFile w))
 operatorBuffer old (refusal r) = old

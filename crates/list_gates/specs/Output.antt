@@ -5,9 +5,9 @@ use mathlib.Core.Path.{_≡_}
 use Prim.Native.Nat.{ℕ, _≤_}
 use Rattle.letter.specs.declared.Gate.{Gate}
 use Rattle.letter.specs.Gate.{letter}
-use Rattle.file.specs.File.{Appended}
+use Rattle.file.specs.File.{Appended, fileOperator}
 use Rattle.gate.specs.Product.{MultipliesTo, csGates}
-use Rattle.operator.specs.Acceptance.{fileOperator, fileRefusal}
+use Rattle.operator.specs.Acceptance.{fileRefusal}
 use Rattle.operator.specs.Cutting.{fileCount}
 use Rattle.text.specs.Text.{countLine, gatesLine, refusedLine}
 

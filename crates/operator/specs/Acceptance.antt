@@ -6,15 +6,11 @@ use lib.Dec.{eqb, ltb}
 use lib.IntN.{pos}
 use lib.ListN.{length}
 use lib.Signed.{ltZ}
-use Rattle.matrix.specs.Matrix.{Matrix, entry}
+use Rattle.matrix.specs.Matrix.{Matrix}
 use Rattle.matrix.specs.Determinant.{det}
-use Rattle.matrix.specs.Operator.{Operator, operator}
+use Rattle.matrix.specs.Operator.{Operator}
 use Rattle.matrix.specs.Array.{isWithin, isOrthogonal}
-use Rattle.file.specs.File.{largestExponent, fileLength, fileExponent, fileMatrix}
-
--- the operator of a file
-abbrev pub fileOperator : List ℕ → Operator
-fileOperator b = operator (fileExponent b) (entry (fileMatrix b))
+use Rattle.file.specs.File.{largestExponent, fileLength, fileExponent, fileOperator}
 
 -- "It is proper if the determinant of M is positive"
 abbrev pub isProper : Matrix → Bool

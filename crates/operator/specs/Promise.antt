@@ -9,13 +9,13 @@ use lib.ListN.{length}
 use Rattle.matrix.specs.Operator.{SameOperator, LeastExponent}
 use Rattle.file.specs.declared.Answer.{Answer}
 use Rattle.file.specs.declared.Answer.the-variants.{Count, Refused}
-use Rattle.file.specs.File.{largestExponent, fileLength, fileExponent, fileMatrix, written}
+use Rattle.file.specs.File.{largestExponent, fileLength, fileExponent, fileMatrix, written, fileOperator}
 use Rattle.reduction.specs.Reduction.{sheet, sheetOperator}
 use Rattle.letter.specs.declared.Gate.{Gate}
 use Rattle.letter.specs.Gate.{letter}
 use Rattle.gate.specs.Product.{MultipliesTo, csGates}
 use Rattle.operator.specs.declared.Listed as listed
-use Rattle.operator.specs.Acceptance.{fileOperator, fileRefusal}
+use Rattle.operator.specs.Acceptance.{fileRefusal}
 use Rattle.operator.specs.Cutting.{fileCount}
 
 -- ---- refused for its entries

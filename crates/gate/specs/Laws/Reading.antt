@@ -1,5 +1,5 @@
 -- What a list is read into, and which place of a list that is not read earns its refusal.
-use mathlib.Core.Path.{_≡_, refl, sym, ap, subst, _∙_}
+use mathlib.Core.Path.{_≡_, refl, sym, ap, ap₂, subst, _∙_}
 use mathlib.Core.Bool.{Bool, true, false, cond}
 use mathlib.Core.List.{List, [], _∷_, _++_, map, append-nil}
 use Prim.Native.Nat.{ℕ, _+_, _<_, _≤_}
@@ -9,21 +9,22 @@ use lib.Dec.{ltb}
 use lib.ListN.{length, take, length-append}
 use lib.Seq.{take-append-le, take-length}
 use borrow.Author.Tests.{ltb-true, ltb-false}
-use Rattle.matrix.specs.Matrix.{listed}
+use Rattle.matrix.specs.Matrix.{entry, listed}
 use Rattle.matrix.specs.Array.{leastForm}
-use Rattle.matrix.specs.Operator.{SameOperator, Orthogonal, Reduced, LeastExponent}
+use Rattle.matrix.specs.Operator.{operator, SameOperator, Orthogonal, Reduced, LeastExponent}
 use Rattle.matrix.specs.Laws.Operator.{same-operator-sym, same-operator-trans, same-orthogonal, least-same, least-unique}
 use Rattle.matrix.specs.Laws.Array.{operatorOf, listed-same, length-listed, least-form, least-exponent}
 use Rattle.file.specs.declared.Answer.{Answer}
 use Rattle.file.specs.declared.Answer.the-variants.{Count, Refused}
-use Rattle.file.specs.File.{largestExponent, fileLength}
+use Rattle.file.specs.File.{largestExponent, fileLength, fileOperator}
+use Rattle.file.specs.Laws.File.{exponent-back, matrix-back, orthogonal-short}
 use Rattle.letter.specs.declared.Gate.{Gate}
 use Rattle.letter.specs.declared.Letter.{Letter}
 use Rattle.letter.specs.declared.Letter.the-variants.{Is, Unknown}
 use Rattle.letter.specs.Gate.{letter, gateOf}
 use Rattle.letter.specs.Laws.Gate.{letter-of-gate}
 use Rattle.gate.specs.Product.{productOf}
-use Rattle.gate.specs.Reading.{largestList, Reading, gates, refusal, leastOf, readLetter, readFrom, reading, operatorAnswer, operatorBuffer}
+use Rattle.gate.specs.Reading.{largestList, Reading, gates, refusal, leastOf, readLetter, readFrom, productFile, reading, operatorAnswer, operatorBuffer}
 use Rattle.gate.specs.Promise.{ReadInto, Deep, EarnsNine, EarnsEight, ProductPromise}
 use Rattle.gate.specs.Laws.Product.{product-orthogonal}
 
@@ -78,7 +79,7 @@ shallow-more w g s e n h d = elim (decLt n (length (w ++ g ∷ []))) [
 
 -- what reading the whole list cs gives
 abbrev Outcome : List ℕ → Reading → Type 0
-Outcome cs (gates v) = cs ≡ map letter v
+Outcome cs (gates v) = (cs ≡ map letter v) × Shallow v
 Outcome cs (refusal n) = (n ≡ 8 → EarnsEight cs) × (n ≡ 9 → EarnsNine cs)
 
 map-snoc : (w : List Gate) (g : Gate) (bs : List ℕ) → map letter w ++ (letter g ∷ bs) ≡ map letter (w ++ g ∷ []) ++ bs
@@ -113,7 +114,7 @@ module _ (cs : List ℕ) (w : List Gate) (b : ℕ) (bs : List ℕ) (e : cs ≡ m
 
 outcome : (cs : List ℕ) (w : List Gate) (bs : List ℕ) → cs ≡ map letter w ++ bs → Shallow w → Outcome cs (readFrom w bs)
 unfolding readFrom
-outcome cs w [] e s = e ∙ append-nil (map letter w)
+outcome cs w [] e s = (e ∙ append-nil (map letter w), s)
 outcome cs w (b ∷ bs) e s = one-letter cs w b bs e s (λ v. readFrom v bs) (λ g f t. outcome cs (w ++ g ∷ []) bs f t) (gateOf b) refl
 
 -- of the whole list, 7 among the refusals
@@ -130,8 +131,26 @@ list-outcome bs = go (ltb largestList (length bs))
 
 -- ---- the promise, of the answer and the buffer that the definitions give
 
+-- a list that is not deep fits a file
+not-above : (w : List Gate) → Shallow w → leastOf w .exponent ≤ largestExponent
+not-above w s = elim (decLt largestExponent (leastOf w .exponent)) [
+  | yes h ↦ absurd (s (length w) (omega arith) (subst Deep (sym (take-length w)) (deep w h)))
+  | no h ↦ omega arith
+]
+
+file-back : (w : List Gate) → leastOf w .exponent ≤ largestExponent → fileOperator (productFile w) ≡ operatorOf (leastOf w)
+file-back w h =
+    ap₂ (λ k m. operator k (entry m)) (exponent-back (leastOf w .exponent) (leastOf w .matrix))
+    (matrix-back (leastOf w .exponent) (leastOf w .matrix) (orthogonal-short (leastOf w .exponent) (leastOf w .matrix) h (least-of-orthogonal w)) (least-of-long w))
+
 read-into : (bs : List ℕ) (w : List Gate) → reading bs ≡ gates w → ReadInto bs w
-read-into bs w e = record { letters = subst (Outcome bs) e (list-outcome bs); multiplies = record { same = least-of-same w }; least = least-of-exponent w }
+read-into bs w e =
+    let (l, s) = subst (Outcome bs) e (list-outcome bs) in
+    record {
+      letters = l;
+      multiplies = record { same = subst (SameOperator (productOf w)) (sym (file-back w (not-above w s))) (least-of-same w) };
+      least = subst (LeastExponent (productOf w)) (sym (exponent-back (leastOf w .exponent) (leastOf w .matrix))) (least-of-exponent w);
+    }
 
 -- an answer above 6 is that of the reading
 as-read : (n : ℕ) (x : Reading) (k : ℕ) → 6 < k → Refused k ≡ operatorAnswer n x → x ≡ refusal k

@@ -8,12 +8,12 @@ use native.Mathlib.Omega.{arith}
 use lib.ListN.{length}
 use Rattle.matrix.specs.Operator.{Operator}
 use Rattle.matrix.specs.Array.{isWithin, isOrthogonal}
-use Rattle.file.specs.File.{largestExponent, fileLength, fileExponent, fileMatrix}
+use Rattle.file.specs.File.{largestExponent, fileLength, fileExponent, fileMatrix, fileOperator}
 use Rattle.letter.specs.declared.Gate.{Gate}
 use Rattle.gate.specs.Product.{MultipliesTo}
 use Rattle.gate.specs.Laws.Product.{multiplied-orthogonal, multiplied-proper}
 use Rattle.gate_list.specs.Laws.List.{listOf, list-of}
-use Rattle.operator.specs.Acceptance.{fileOperator, isProper, fileRefusal}
+use Rattle.operator.specs.Acceptance.{isProper, fileRefusal}
 use Rattle.operator.specs.Promise.{ForEntries, ExactlyRefused}
 use Rattle.operator.specs.Laws.Acceptance.{accepted, entries-complete, in-form}
 

@@ -15,7 +15,7 @@ use Rattle.matrix.specs.Laws.Array.{least-form}
 use borrow.Author.Tests.{eq-eqb, ne-eqb, lt-ltb, le-ltb}
 use Rattle.file.specs.declared.Answer.{Answer}
 use Rattle.file.specs.declared.Answer.the-variants.{Count, Refused}
-use Rattle.file.specs.File.{written, largestExponent, fileExponent, fileMatrix}
+use Rattle.file.specs.File.{written, largestExponent, fileExponent, fileMatrix, fileOperator}
 use Rattle.clifford.specs.Columns.{columnsMatrix, columnBytes, areColumnBytes}
 use Rattle.clifford.specs.Laws.Columns.{matrix-permutation, matrix-columns, permutation-complete}
 use Rattle.reduction.specs.Reduction.{remaining, sheet, normalForm, sheetNumbers, sheetColumns, sheetOperator}
@@ -27,7 +27,7 @@ use Rattle.gate_list.specs.List.{gateList}
 use Rattle.gate_list.specs.Laws.List.{listOf, list-of}
 use Rattle.operator.specs.declared.Listed as listed
 use Rattle.operator.specs.declared.Cut.{Cut}
-use Rattle.operator.specs.Acceptance.{fileOperator, fileRefusal}
+use Rattle.operator.specs.Acceptance.{fileRefusal}
 use Rattle.operator.specs.Cutting.{fileCount, fileNumbers, fileColumns, CutOf}
 use Rattle.operator.specs.Promise.{refusalOf, ExactlyRefused, fileSheet, sheetAnswer, sheetBuffer, SheetPromise, GatesPromise}
 use Rattle.operator.specs.Laws.Acceptance.{accepted}

@@ -17,11 +17,11 @@ use Rattle.matrix.specs.Laws.Array.{listed-same, length-listed, least-form}
 use Rattle.clifford.specs.Columns.{columnsMatrix, columnBytes, isColumnByte, areColumnBytes, arePermutation, isEven, Clifford}
 use Rattle.clifford.specs.Laws.Columns.{matrix-permutation, matrix-columns, permutation-sound, permutation-complete, columns-orthogonal, orthogonal-permutation, orthogonal-clifford, clifford-orthogonal}
 use Rattle.clifford.specs.Laws.Sign.{even-proper, proper-even}
-use Rattle.file.specs.File.{fileExponent, fileMatrix, fileOf}
+use Rattle.file.specs.File.{fileExponent, fileMatrix, fileOf, fileOperator}
 use Rattle.file.specs.Laws.File.{length-file, exponent-back, matrix-back, length-file-matrix, orthogonal-short}
 use Rattle.reduction.specs.Reduction.{count, taken, remaining, sheet, sheetOf, sheetColumns, sheetOperator}
 use Rattle.reduction.specs.Laws.NormalForm.{cutting, same-sheet}
-use Rattle.operator.specs.Acceptance.{fileOperator, fileRefusal, isProper}
+use Rattle.operator.specs.Acceptance.{fileRefusal, isProper}
 use Rattle.operator.specs.Cutting.{fileColumns}
 use Rattle.operator.specs.Promise.{fileSheet}
 use Rattle.operator.specs.Laws.Acceptance as file
