@@ -1,4 +1,5 @@
-// Document 01's trial cuts, run through the five calls: a line for each case, with the answer.
+// Document 01's trial cuts, run through the five calls: a line for each case, with the answer. I is the identity, and the six rows are those of
+// the example of `cut`.
 
 // An entry of −1, in the 16 bits of an operator file.
 const MINUS_ONE: u16 = 65535;
@@ -47,21 +48,21 @@ fn same_case(letters: &[u8], name: &[u8], x: u16) {
 }
 
 fn operators() {
-    show::cut_case(b"identity, k 0", diagonal(0, 1, 1));
-    show::cut_case(b"twice the identity, k 2", diagonal(2, 2, 2));
-    show::cut_case(b"k 2 and the six rows", EXAMPLE);
+    show::cut_case(b"I, k 0", diagonal(0, 1, 1));
+    show::cut_case(b"2 I, k 2", diagonal(2, 2, 2));
+    show::cut_case(b"the six rows, k 2", EXAMPLE);
 }
 
 fn limits() {
-    count_case(b"16384 times the identity, k 28", 28, 16384, 16384);
-    count_case(b"16384 times the identity, k 29", 29, 16384, 16384);
+    count_case(b"16384 I, k 28", 28, 16384, 16384);
+    count_case(b"16384 I, k 29", 29, 16384, 16384);
     count_case(b"entry 3, k 2", 2, 3, 2);
 }
 
 fn refused() {
-    count_case(b"all zero, k 0", 0, 0, 0);
-    count_case(b"identity, k 1", 1, 1, 1);
-    count_case(b"identity with -1 in row 1, k 0", 0, MINUS_ONE, 1);
+    count_case(b"zero, k 0", 0, 0, 0);
+    count_case(b"I, k 1", 1, 1, 1);
+    count_case(b"I with -1, k 0", 0, MINUS_ONE, 1);
 }
 
 fn gate_lists() {
@@ -72,14 +73,14 @@ fn gate_lists() {
 }
 
 fn names() {
-    same_case(b"HH", b": the identity", 1);
-    same_case(b"ZZ", b": the negative of the identity", MINUS_ONE);
-    same_case(b"CCCCCCCC", b": the identity", 1);
+    same_case(b"HH", b": I", 1);
+    same_case(b"ZZ", b": -I", MINUS_ONE);
+    same_case(b"CCCCCCCC", b": I", 1);
 }
 
 fn listed() {
-    show::list_case(b"gate list of the identity", diagonal(0, 1, 1));
-    show::list_case(b"gate list of the six rows", EXAMPLE);
+    show::list_case(b"gates of I", diagonal(0, 1, 1));
+    show::list_case(b"gates of the six rows", EXAMPLE);
 }
 
 fn sheets() {

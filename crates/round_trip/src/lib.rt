@@ -1,0 +1,1 @@
+// Files to sheets and back: theorems in specs/, and no function.
