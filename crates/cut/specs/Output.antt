@@ -3,8 +3,8 @@ use mathlib.Core.Bool.{cond}
 use mathlib.Core.List.{List, _++_}
 use Prim.Native.Nat.{ℕ}
 use lib.Dec.{eqb}
-use Rattle.operator.specs.Acceptance.{fileRefusal}
-use Rattle.operator.specs.Cutting.{fileCount}
+use Rattle.acceptance.specs.Acceptance.{fileRefusal}
+use Rattle.acceptance.specs.Cutting.{fileCount}
 use Rattle.operator.specs.Promise.{fileSheet}
 use Rattle.text.specs.Text.{countLine, sheetLine, refusedLine}
 

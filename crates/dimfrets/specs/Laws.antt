@@ -1,3 +1,2 @@
--- Theorems, a file for each subject.
-pub mod Encoding
+-- Theorems.
 pub mod Answers

@@ -1,61 +1,11 @@
-// The calls for programs in other languages (include/dimfrets.h). The contracts cite specs/Encoding.antt.
+// The calls for programs in other languages (include/dimfrets.h). The contracts are those of the calls, through
+// the words of `answer_word`.
 
-use file::Answer;
-use operator::Listed;
-ghost use mathlib.Core.Logic.{_≢_};
-ghost use mathlib.Core.Path.{_≡_};
-ghost use Prim.Native.Nat.{_^_, _<_};
 ghost use Rattle.gate.specs.Promise.{ProductPromise};
 ghost use Rattle.operator.specs.Promise.{SheetPromise, GatesPromise};
 ghost use Rattle.order.specs.Order.{orderAnswer};
 ghost use Rattle.sheet.specs.Promise.{OperatorPromise};
-ghost use Rattle.dimfrets.specs.Encoding.{packed, answerParts, listedParts, lettersOf, WordOf, Encodes};
-
-// The lowest bit of each part of a word; that of the refusal is 1.
-const VALUE: u64 = 1 << 8;
-
-const LENGTH: u64 = 1 << 32;
-
-const LOOSE: u64 = 1 << 48;
-
-const PHASE: u64 = 1 << 56;
-
-// The word of an answer's parts.
-// Wrong, and refused: L and the phase in each other's bits; a value from bit 9 on.
-fn pack(refusal: u8, value: u32, length: u16, loose: u8, phase: u8) -> u64
-    requires { ⌜ value < 2 ^ 24 ⌝ }
-    ensures { λ r. ⌜ r ≡ packed refusal value length loose phase ⌝ }
-{
-    refusal as u64
-        + VALUE * (value as u64)
-        + LENGTH * (length as u64)
-        + LOOSE * (loose as u64)
-        + PHASE * (phase as u64)
-}
-
-// The word of an answer.
-// Wrong, and refused: the count as a length; a value beside a refusal.
-fn encode_answer(answer: Answer) -> u64
-    requires { ⌜ answer ≢ Answer.Refused 0 ⌝ }
-    ensures { λ r. ⌜ WordOf (answerParts answer) r ⌝ }
-{
-    match answer {
-        Answer::Count(count) => pack(0, count as u32, 0, 0, 0),
-        Answer::Refused(refusal) => pack(refusal, 0, 0, 0, 0),
-    }
-}
-
-// The word of the answer of the call for a gate list.
-// Wrong, and refused: the count as the number of letters; a refusal beside a count.
-fn encode_listed(answer: Listed) -> u64
-    requires { ⌜ (answer ≢ Listed.Refused 0) × (lettersOf answer < 2 ^ 16) ⌝ }
-    ensures { λ r. ⌜ WordOf (listedParts answer) r ⌝ }
-{
-    match answer {
-        Listed::Letters { count, letters } => pack(0, count as u32, letters as u16, 0, 0),
-        Listed::Refused(refusal) => pack(refusal, 0, 0, 0, 0),
-    }
-}
+ghost use Rattle.answer_word.specs.Encoding.{answerParts, listedParts, WordOf, Encodes};
 
 // An operator file into a sheet.
 #[no_mangle]
@@ -63,7 +13,7 @@ pub extern "C" fn dimfrets_operator_to_sheet(input: &[u8], output: &mut [u8]) ->
     ensures { λ r. ⌜ Encodes answerParts (SheetPromise (now (input .entry)) (now (output .entry)) (now (output .exit))) r ⌝ }
 {
     let answer = operator::operator_to_sheet(input, output);
-    encode_answer(answer)
+    answer_word::encode_answer(answer)
 }
 
 // An operator file into a gate list.
@@ -72,7 +22,7 @@ pub extern "C" fn dimfrets_operator_to_gates(input: &[u8], output: &mut [u8]) ->
     ensures { λ r. ⌜ Encodes listedParts (GatesPromise (now (input .entry)) (now (output .entry)) (now (output .exit))) r ⌝ }
 {
     let answer = operator::operator_to_gates(input, output);
-    encode_listed(answer)
+    answer_word::encode_listed(answer)
 }
 
 // A gate list into an operator file.
@@ -81,7 +31,7 @@ pub extern "C" fn dimfrets_gates_to_operator(input: &[u8], output: &mut [u8]) ->
     ensures { λ r. ⌜ Encodes answerParts (ProductPromise (now (input .entry)) (now (output .entry)) (now (output .exit))) r ⌝ }
 {
     let answer = gate::gates_to_operator(input, output);
-    encode_answer(answer)
+    answer_word::encode_answer(answer)
 }
 
 // A sheet into an operator file.
@@ -90,7 +40,7 @@ pub extern "C" fn dimfrets_sheet_to_operator(input: &[u8], output: &mut [u8]) ->
     ensures { λ r. ⌜ Encodes answerParts (OperatorPromise (now (input .entry)) (now (output .entry)) (now (output .exit))) r ⌝ }
 {
     let answer = sheet::sheet_to_operator(input, output);
-    encode_answer(answer)
+    answer_word::encode_answer(answer)
 }
 
 // The number of CS states to order.
@@ -100,5 +50,5 @@ pub extern "C" fn dimfrets_states_to_order(t: u64, p: u64) -> u64
     ensures { λ r. ⌜ WordOf (answerParts (orderAnswer t p)) r ⌝ }
 {
     let answer = order::states_to_order(t, p);
-    encode_answer(answer)
+    answer_word::encode_answer(answer)
 }

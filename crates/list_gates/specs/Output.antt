@@ -7,8 +7,8 @@ use Rattle.letter.specs.declared.Gate.{Gate}
 use Rattle.letter.specs.Gate.{letter}
 use Rattle.file.specs.File.{Appended, fileOperator}
 use Rattle.gate.specs.Product.{MultipliesTo, csGates}
-use Rattle.operator.specs.Acceptance.{fileRefusal}
-use Rattle.operator.specs.Cutting.{fileCount}
+use Rattle.acceptance.specs.Acceptance.{fileRefusal}
+use Rattle.acceptance.specs.Cutting.{fileCount}
 use Rattle.text.specs.Text.{countLine, gatesLine, refusedLine}
 
 -- a list for the operator of the file b; its Clifford letters are free

@@ -4,7 +4,7 @@ use mathlib.Core.List.{List}
 use Prim.Native.Nat.{ℕ}
 use lib.Dec.{eqb}
 use Rattle.file.specs.File.{fileOf}
-use Rattle.sheet.specs.Sheet.{sheetRefusal, sheetLeast}
+use Rattle.sheet_bytes.specs.Sheet.{sheetRefusal, sheetLeast}
 use Rattle.text.specs.Text.{refusedLine}
 
 -- for the bytes s: "Files written by us carry the least exponent"

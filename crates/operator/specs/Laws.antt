@@ -1,5 +1,3 @@
 -- Theorems, a file for each subject; a file cites only those above it.
-pub mod Acceptance
-pub mod Cutting
 pub mod Exactly
 pub mod Promise

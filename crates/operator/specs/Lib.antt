@@ -1,5 +1,3 @@
 -- Definitions first; the theorems about them are in `Laws/`.
-pub mod Acceptance
-pub mod Cutting
 pub mod Promise
 pub mod Laws

@@ -15,8 +15,8 @@ use Rattle.letter.specs.declared.Gate.{Gate}
 use Rattle.letter.specs.Gate.{letter}
 use Rattle.gate.specs.Product.{MultipliesTo, csGates}
 use Rattle.operator.specs.declared.Listed as listed
-use Rattle.operator.specs.Acceptance.{fileRefusal}
-use Rattle.operator.specs.Cutting.{fileCount}
+use Rattle.acceptance.specs.Acceptance.{fileRefusal}
+use Rattle.acceptance.specs.Cutting.{fileCount}
 
 -- ---- refused for its entries
 

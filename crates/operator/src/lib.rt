@@ -1,79 +1,13 @@
-// Operator files taken in: refusals 1 to 5, and the normal form of an accepted operator. The contracts cite specs/.
+// Operator files to sheets and gate lists: refusals 1 to 6. The contracts cite specs/Promise.antt.
 
 use file::Answer;
 ghost use mathlib.Core.Path.{_≡_};
 ghost use mathlib.Core.List.{_++_};
-ghost use Prim.Native.Nat.{_+_, _≤_, _^_};
+ghost use Prim.Native.Nat.{_+_, _≤_};
 ghost use lib.ListN.{length, take};
 ghost use Rattle.matrix.specs.Matrix.{entry};
-ghost use Rattle.matrix.specs.Operator.{operator};
-ghost use Rattle.matrix.specs.Array.{Bounded};
 ghost use Rattle.file.specs.File.{written};
-ghost use Rattle.operator.specs.Acceptance.{entriesRefusal};
-ghost use Rattle.operator.specs.Cutting.{CutAs, CutOf};
 ghost use Rattle.operator.specs.Promise.{SheetPromise, GatesPromise};
-
-// What an operator file gives: the number of a refusal, or 0 and the normal form.
-pub struct Cut {
-    pub refusal: u8,
-    pub count: u8,
-    pub numbers: [u8; 60],
-    pub columns: [u8; 6],
-}
-
-// A refusal, with nothing beside it.
-fn refused(refusal: u8) -> Cut
-    ensures { λ r. ⌜ r .refusal ≡ refusal ⌝ }
-{
-    Cut {
-        refusal,
-        count: 0,
-        numbers: [0; 60],
-        columns: [0; 6],
-    }
-}
-
-// The refusal of an operator for its entries, or its normal form.
-fn cut_operator(k: u8, m: [i64; 36]) -> Cut
-    requires { ⌜ (k ≤ 60) × Bounded (2 ^ 30) (entry m) ⌝ }
-    ensures { λ r. ⌜ CutAs (entriesRefusal (operator k (entry m))) k m r ⌝ }
-{
-    if !matrix::is_within(k, m) {
-        return refused(3);
-    }
-    if !matrix::is_orthogonal(k, m) {
-        return refused(4);
-    }
-    let normal = reduction::normal_form(k, m);
-    let count = normal.count;
-    let numbers = normal.numbers;
-    let remaining = normal.matrix;
-    let columns = clifford::columns_of(remaining);
-    if !clifford::is_even(columns) {
-        return refused(5);
-    }
-    Cut {
-        refusal: 0,
-        count,
-        numbers,
-        columns,
-    }
-}
-
-// The refusal of an operator file, or the normal form of its operator.
-pub fn cut_file(bytes: &[u8]) -> Cut
-    ensures { λ r. ⌜ CutOf (now (bytes .entry)) r ⌝ }
-{
-    if bytes.len() != file::FILE_LENGTH {
-        return refused(1);
-    }
-    let k = bytes[0];
-    if file::LARGEST_EXPONENT < k {
-        return refused(2);
-    }
-    let m = file::decode(bytes);
-    cut_operator(k, m)
-}
 
 // The sheet at the front of `out`; the bytes past it stay.
 fn write_sheet(count: u8, numbers: [u8; 60], columns: [u8; 6], out: &mut [u8])
@@ -93,7 +27,7 @@ fn write_sheet(count: u8, numbers: [u8; 60], columns: [u8; 6], out: &mut [u8])
 pub fn operator_to_sheet(bytes: &[u8], out: &mut [u8]) -> Answer
     ensures { λ r. ⌜ SheetPromise (now (bytes .entry)) (now (out .entry)) (now (out .exit)) r ⌝ }
 {
-    let cut = cut_file(bytes);
+    let cut = acceptance::cut_file(bytes);
     let refusal = cut.refusal;
     if refusal != 0 {
         return Answer::Refused(refusal);
@@ -119,7 +53,7 @@ pub enum Listed {
 pub fn operator_to_gates(bytes: &[u8], out: &mut [u8]) -> Listed
     ensures { λ r. ⌜ GatesPromise (now (bytes .entry)) (now (out .entry)) (now (out .exit)) r ⌝ }
 {
-    let cut = cut_file(bytes);
+    let cut = acceptance::cut_file(bytes);
     let refusal = cut.refusal;
     if refusal != 0 {
         return Listed::Refused(refusal);

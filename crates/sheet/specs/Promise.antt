@@ -15,7 +15,7 @@ use Rattle.file.specs.declared.Answer.the-variants.{Count, Refused}
 use Rattle.file.specs.File.{fileLength, fileOf, written}
 use Rattle.reduction.specs.Reduction.{sheet, sheetOperator}
 use Rattle.file.specs.declared.Read.{Read}
-use Rattle.sheet.specs.Sheet.{sheetRefusal, sheetLeast}
+use Rattle.sheet_bytes.specs.Sheet.{sheetRefusal, sheetLeast}
 
 -- what is kept of an operator that is to have this sheet: 13, or 0 and the operator at the least exponent
 pub record CutAgain (s : List ℕ) (k : ℕ) (m : List ℤ) (r : Read) : Type 0 where

@@ -1,58 +1,20 @@
-// Sheets read into operator files: refusals 10 to 13 and 6. The contracts cite specs/.
+// Sheets read into operator files: refusals 10 to 13 and 6. The contracts cite specs/Promise.antt.
 
 use file::Answer;
 use file::Read;
-ghost use mathlib.Core.Bool.{true, not, cond};
+ghost use mathlib.Core.Bool.{true};
 ghost use mathlib.Core.List.{_++_};
 ghost use mathlib.Core.Path.{_≡_};
 ghost use Prim.Native.Nat.{_+_, _≤_};
-ghost use lib.ListN.{length, getD, take, drop};
+ghost use lib.ListN.{length, getD, take};
 ghost use Rattle.matrix.specs.List.{sameList};
 ghost use Rattle.matrix.specs.Range.{every};
 ghost use Rattle.matrix.specs.Matrix.{entry, listed};
 ghost use Rattle.matrix.specs.Operator.{operator, Orthogonal};
-ghost use Rattle.clifford.specs.Columns.{areColumnBytes, arePermutation, columnsMatrix};
+ghost use Rattle.clifford.specs.Columns.{arePermutation, columnsMatrix};
 ghost use Rattle.reduction.specs.Reduction.{normalForm};
-ghost use Rattle.sheet.specs.Sheet.{isNumber, isClifford, bytesRefusal};
+ghost use Rattle.sheet_bytes.specs.Sheet.{isNumber};
 ghost use Rattle.sheet.specs.Promise.{CutAgain, SheetRead, OperatorPromise};
-
-// The fewest and the most bytes of a sheet.
-pub const SHORTEST: usize = 6;
-
-pub const LONGEST: usize = 34;
-
-// Whether the first `count` bytes are generator numbers.
-fn are_numbers(bytes: &[u8], count: usize) -> bool
-    requires { ⌜ count ≤ length (now bytes) ⌝ }
-    ensures { λ r. ⌜ r ≡ every count (λ n. isNumber (getD (now (bytes .entry)) n 0)) ⌝ }
-{
-    let mut n = 0usize;
-    while n < count {
-        let g = bytes[n];
-        if g < 1 {
-            return false;
-        }
-        if 15 < g {
-            return false;
-        }
-        n += 1;
-    }
-    true
-}
-
-// The last six bytes, from `at` on.
-fn columns_from(bytes: &[u8], at: usize) -> [u8; 6]
-    requires { ⌜ length (now bytes) ≡ at + 6 ⌝ }
-    ensures { λ r. ⌜ r ≡ drop at (now (bytes .entry)) ⌝ }
-{
-    let mut columns = [0u8; 6];
-    let mut c = 0usize;
-    while c < 6 {
-        columns[c] = bytes[at + c];
-        c += 1;
-    }
-    columns
-}
 
 // The product of the first `count` generators and a Clifford.
 fn multiplied(bytes: &[u8], count: usize, columns: [u8; 6]) -> [i64; 36]
@@ -110,50 +72,16 @@ fn cut_again(bytes: &[u8], count: u8, m: [i64; 36]) -> Read
     }
 }
 
-// The refusal of six column bytes, or 0.
-fn columns_refusal(columns: [u8; 6]) -> u8
-    ensures { λ r. ⌜ r ≡ cond (not (areColumnBytes columns)) 11 (cond (not (isClifford columns)) 12 0) ⌝ }
-{
-    if !clifford::are_column_bytes(columns) {
-        return 11;
-    }
-    if !clifford::rows_differ(columns) {
-        return 12;
-    }
-    if !clifford::is_even(columns) {
-        return 12;
-    }
-    0
-}
-
-// The refusal that a sheet's bytes earn before its operator is looked at, or 0.
-fn bytes_refusal(bytes: &[u8]) -> u8
-    ensures { λ r. ⌜ r ≡ bytesRefusal (now (bytes .entry)) 0 ⌝ }
-{
-    if bytes.len() < SHORTEST {
-        return 10;
-    }
-    if LONGEST < bytes.len() {
-        return 10;
-    }
-    let count = bytes.len() - 6;
-    if !are_numbers(bytes, count) {
-        return 11;
-    }
-    let columns = columns_from(bytes, count);
-    columns_refusal(columns)
-}
-
 // The refusal of a sheet, or its operator at the least exponent.
 fn read_sheet(bytes: &[u8]) -> Read
     ensures { λ r. ⌜ SheetRead (now (bytes .entry)) r ⌝ }
 {
-    let refusal = bytes_refusal(bytes);
+    let refusal = sheet_bytes::bytes_refusal(bytes);
     if refusal != 0 {
         return file::refused(refusal);
     }
     let count = bytes.len() - 6;
-    let columns = columns_from(bytes, count);
+    let columns = sheet_bytes::columns_from(bytes, count);
     let m = multiplied(bytes, count, columns);
     cut_again(bytes, count as u8, m)
 }

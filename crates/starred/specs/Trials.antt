@@ -11,9 +11,9 @@ use Rattle.reduction.specs.Reduction.{sheetOf}
 use Rattle.letter.specs.declared.Gate.{Gate}
 use Rattle.letter.specs.declared.Gate.the-variants.{H1, Cz, Cs}
 use Rattle.gate.specs.Product.{productOf}
-use Rattle.operator.specs.Acceptance.{fileRefusal}
+use Rattle.acceptance.specs.Acceptance.{fileRefusal}
 use Rattle.operator.specs.Promise.{fileSheet}
-use Rattle.sheet.specs.Sheet.{sheetRefusal}
+use Rattle.sheet_bytes.specs.Sheet.{sheetRefusal}
 
 pub data Trial : Type 0 where
   -- the file of this exponent and matrix is accepted and has this sheet

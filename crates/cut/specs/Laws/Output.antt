@@ -11,8 +11,8 @@ use borrow.Author.Tests.{eq-eqb, ne-eqb, le-ltb}
 use Rattle.file.specs.declared.Answer.{Answer}
 use Rattle.file.specs.declared.Answer.the-variants.{Count, Refused}
 use Rattle.file.specs.File.{written}
-use Rattle.operator.specs.Acceptance.{fileRefusal}
-use Rattle.operator.specs.Cutting.{fileCount}
+use Rattle.acceptance.specs.Acceptance.{fileRefusal}
+use Rattle.acceptance.specs.Cutting.{fileCount}
 use Rattle.operator.specs.Promise.{fileSheet, sheetAnswer, sheetBuffer, SheetPromise}
 use Rattle.operator.specs.Laws.Promise.{count-small, sheet-length}
 use Rattle.text.specs.Text.{countLine, sheetLine, refusedLine}

@@ -1,6 +1,6 @@
 -- The word is that of the call's answer, which is never refusal 0.
 use mathlib.Core.Path.{sym, subst, _∙_}
-use Rattle.dimfrets.specs.Encoding.{answerParts, WordOf}
+use Rattle.answer_word.specs.Encoding.{answerParts, WordOf}
 use Rattle.dimfrets.specs.Laws.Answers.{order-not-zero}
 use borrow.Author.Needs.{needs}
 use Rattle.dimfrets.proofs.dimfrets_states_to_order.Statement.{statement}

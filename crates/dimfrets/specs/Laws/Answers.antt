@@ -17,14 +17,14 @@ use Rattle.letter.specs.declared.Letter.the-variants.{Is, Unknown}
 use Rattle.letter.specs.Gate.{gateOf}
 use Rattle.gate.specs.Reading as reading
 use Rattle.operator.specs.declared.Listed as listed
-use Rattle.operator.specs.Acceptance.{fileRefusal}
-use Rattle.operator.specs.Cutting.{fileCount}
+use Rattle.acceptance.specs.Acceptance.{fileRefusal}
+use Rattle.acceptance.specs.Cutting.{fileCount}
 use Rattle.operator.specs.Promise.{fileSheet, sheetAnswer, GatesPromise}
 use Rattle.operator.specs.Laws.Promise.{count-small}
-use Rattle.sheet.specs.Sheet.{sheetRefusal, sheetLeast}
+use Rattle.sheet_bytes.specs.Sheet.{sheetRefusal, sheetLeast}
 use Rattle.sheet.specs.Promise as sheet
 use Rattle.order.specs.Order.{largestSpoilage, figure, orderAnswer}
-use Rattle.dimfrets.specs.Encoding.{lettersOf}
+use Rattle.answer_word.specs.Encoding.{lettersOf}
 
 -- a refusal of its own number, or none
 chosen : (t : Bool) (x n : ℕ) → x ≢ 0 → cond t (Refused x) (Count n) ≢ Refused 0

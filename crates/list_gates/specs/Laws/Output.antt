@@ -11,8 +11,8 @@ use Rattle.letter.specs.declared.Gate.{Gate}
 use Rattle.letter.specs.Gate.{letter}
 use Rattle.operator.specs.declared.Listed.{Listed}
 use Rattle.operator.specs.declared.Listed.the-variants.{Letters, Refused}
-use Rattle.operator.specs.Acceptance.{fileRefusal}
-use Rattle.operator.specs.Cutting.{fileCount}
+use Rattle.acceptance.specs.Acceptance.{fileRefusal}
+use Rattle.acceptance.specs.Cutting.{fileCount}
 use Rattle.operator.specs.Promise.{Handed, GatesPromise}
 use Rattle.operator.specs.Laws.Promise.{count-small}
 use Rattle.text.specs.Text.{countLine, gatesLine, refusedLine}

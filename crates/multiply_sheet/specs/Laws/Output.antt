@@ -11,7 +11,7 @@ use Rattle.file.specs.declared.Answer.{Answer}
 use Rattle.file.specs.declared.Answer.the-variants.{Count, Refused}
 use Rattle.file.specs.File.{fileLength, fileOf, written, Appended}
 use Rattle.file.specs.Laws.File.{length-file}
-use Rattle.sheet.specs.Sheet.{sheetRefusal, sheetLeast}
+use Rattle.sheet_bytes.specs.Sheet.{sheetRefusal, sheetLeast}
 use Rattle.sheet.specs.Promise.{operatorAnswer, operatorBuffer, OperatorPromise}
 use Rattle.text.specs.Text.{refusedLine}
 use Rattle.text.specs.Laws.Text.{front}

@@ -13,9 +13,9 @@ use Rattle.letter.specs.declared.Gate.{Gate}
 use Rattle.gate.specs.Product.{MultipliesTo}
 use Rattle.gate.specs.Laws.Product.{multiplied-orthogonal, multiplied-proper}
 use Rattle.gate_list.specs.Laws.List.{listOf, list-of}
-use Rattle.operator.specs.Acceptance.{isProper, fileRefusal}
+use Rattle.acceptance.specs.Acceptance.{isProper, fileRefusal}
 use Rattle.operator.specs.Promise.{ForEntries, ExactlyRefused}
-use Rattle.operator.specs.Laws.Acceptance.{accepted, entries-complete, in-form}
+use Rattle.acceptance.specs.Laws.Acceptance.{accepted, entries-complete, in-form}
 
 pub accepted-multiplies : (b : List ℕ) → fileRefusal b ≡ 0 → (w : List Gate) × MultipliesTo w (fileOperator b)
 accepted-multiplies b z =

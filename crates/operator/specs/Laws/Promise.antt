@@ -26,11 +26,11 @@ use Rattle.letter.specs.Laws.Bytes.{columns-valid}
 use Rattle.gate_list.specs.List.{gateList}
 use Rattle.gate_list.specs.Laws.List.{listOf, list-of}
 use Rattle.operator.specs.declared.Listed as listed
-use Rattle.operator.specs.declared.Cut.{Cut}
-use Rattle.operator.specs.Acceptance.{fileRefusal}
-use Rattle.operator.specs.Cutting.{fileCount, fileNumbers, fileColumns, CutOf}
+use Rattle.acceptance.specs.declared.Cut.{Cut}
+use Rattle.acceptance.specs.Acceptance.{fileRefusal}
+use Rattle.acceptance.specs.Cutting.{fileCount, fileNumbers, fileColumns, CutOf}
 use Rattle.operator.specs.Promise.{refusalOf, ExactlyRefused, fileSheet, sheetAnswer, sheetBuffer, SheetPromise, GatesPromise}
-use Rattle.operator.specs.Laws.Acceptance.{accepted}
+use Rattle.acceptance.specs.Laws.Acceptance.{accepted}
 use Rattle.operator.specs.Laws.Exactly.{exactly-refused, exactly-accepted}
 
 module _ (b : List ℕ) (z : fileRefusal b ≡ 0) where

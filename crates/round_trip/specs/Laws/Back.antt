@@ -21,13 +21,13 @@ use Rattle.file.specs.File.{fileExponent, fileMatrix, fileOf, fileOperator}
 use Rattle.file.specs.Laws.File.{length-file, exponent-back, matrix-back, length-file-matrix, orthogonal-short}
 use Rattle.reduction.specs.Reduction.{count, taken, remaining, sheet, sheetOf, sheetColumns, sheetOperator}
 use Rattle.reduction.specs.Laws.NormalForm.{cutting, same-sheet}
-use Rattle.operator.specs.Acceptance.{fileRefusal, isProper}
-use Rattle.operator.specs.Cutting.{fileColumns}
+use Rattle.acceptance.specs.Acceptance.{fileRefusal, isProper}
+use Rattle.acceptance.specs.Cutting.{fileColumns}
 use Rattle.operator.specs.Promise.{fileSheet}
-use Rattle.operator.specs.Laws.Acceptance as file
-use Rattle.operator.specs.Laws.Cutting.{even-is-proper}
+use Rattle.acceptance.specs.Laws.Acceptance as file
+use Rattle.acceptance.specs.Laws.Cutting.{even-is-proper}
 use Rattle.operator.specs.Laws.Promise.{file-cutting, count-small, columns-bytes, sheet-length, sheet-numbers, sheet-columns, sheet-multiplies}
-use Rattle.sheet.specs.Sheet.{shortest, longest, isNumber, areNumbers, isClifford, sheetRefusal, sheetLeast}
+use Rattle.sheet_bytes.specs.Sheet.{shortest, longest, isNumber, areNumbers, isClifford, sheetRefusal, sheetLeast}
 use Rattle.sheet.specs.Laws.Sheet.{Accepted, sheet-orthogonal, sheet-same-least, sheet-exact, sheet-small, least-orthogonal-sheet}
 
 -- ---- six column bytes

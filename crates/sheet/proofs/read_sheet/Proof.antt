@@ -13,7 +13,7 @@ use Rattle.matrix.specs.Operator.{operator, Orthogonal}
 use Rattle.clifford.specs.Columns.{columnsMatrix}
 use Rattle.reduction.specs.Reduction.{normalForm, sheetNumbers, sheetColumns, sheetOperator}
 use Rattle.file.specs.declared.Read.{Read}
-use Rattle.sheet.specs.Sheet.{bytesRefusal, sheetRefusal, sheetLeast}
+use Rattle.sheet_bytes.specs.Sheet.{bytesRefusal, sheetRefusal, sheetLeast}
 use Rattle.sheet.specs.Promise.{CutAgain, SheetRead}
 use Rattle.sheet.specs.Laws.Sheet.{InForm, in-form, in-form-refusal, out-of-form, sheet-exponent, sheet-orthogonal, same-again}
 use Rattle.sheet.proofs.read_sheet.Statement.{statement}

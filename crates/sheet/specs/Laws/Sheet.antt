@@ -21,7 +21,7 @@ use Rattle.clifford.specs.Laws.Columns.{permutation-sound, columns-orthogonal}
 use Rattle.residue.specs.Laws.Generator.{generator-orthogonal}
 use Rattle.reduction.specs.Reduction.{sheetOf, normalForm, sheetNumbers, sheetColumns, sheetOperator}
 use Rattle.reduction.specs.Laws.NormalForm.{Numbers, length-sheet}
-use Rattle.sheet.specs.Sheet.{shortest, longest, isNumber, areNumbers, isClifford, bytesRefusal, sheetRefusal, sheetLeast}
+use Rattle.sheet_bytes.specs.Sheet.{shortest, longest, isNumber, areNumbers, isClifford, bytesRefusal, sheetRefusal, sheetLeast}
 
 -- bytes that pass the test are generator numbers
 pub numbers-sound : (s : List ℕ) (t : ℕ) → t ≤ length s → every t (λ n. isNumber (getD s n 0)) ≡ true → (i : ℕ) → i < t → (1 ≤ getD s i 0) × (getD s i 0 ≤ 15)

@@ -12,8 +12,8 @@ use Rattle.clifford.specs.Columns.{isEven, arePermutation, columnByte}
 use Rattle.residue.specs.Generator.{table, place, generator, fits, firstFit}
 use Rattle.reduction.specs.Reduction.{generators, remainder, sheet, normalForm}
 use Rattle.gate.specs.Product.{image, productOf}
-use Rattle.operator.specs.Acceptance.{fileRefusal}
-use Rattle.sheet.specs.Sheet.{sheetRefusal}
+use Rattle.acceptance.specs.Acceptance.{fileRefusal}
+use Rattle.sheet_bytes.specs.Sheet.{sheetRefusal}
 use Rattle.starred.specs.Trials.{trials, allPass}
 
 pub trials-pass : allPass trials ≡ true

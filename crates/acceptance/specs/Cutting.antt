@@ -8,8 +8,8 @@ use Rattle.clifford.specs.Columns.{columnBytes}
 use Rattle.file.specs.File.{fileExponent, fileMatrix}
 use Rattle.reduction.specs.Reduction as reduction
 use Rattle.reduction.specs.Result.{numbersOf}
-use Rattle.operator.specs.declared.Cut.{Cut}
-use Rattle.operator.specs.Acceptance.{fileRefusal}
+use Rattle.acceptance.specs.declared.Cut.{Cut}
+use Rattle.acceptance.specs.Acceptance.{fileRefusal}
 
 abbrev pub fileCount : List ℕ → ℕ
 fileCount b = reduction.count (fileExponent b) (fileMatrix b)

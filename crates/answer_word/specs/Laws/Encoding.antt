@@ -4,7 +4,7 @@ use mathlib.Core.Path.{_≡_, ap, _∙_}
 use Prim.Native.Nat.{ℕ, _≤_}
 use native.Mathlib.Omega.{arith}
 use borrow.Author.Tests.{eq-eqb, ne-eqb}
-use Rattle.dimfrets.specs.Encoding.{packed, Parts, refused, given, encoded, Fits, bits, decoded}
+use Rattle.answer_word.specs.Encoding.{packed, Parts, refused, given, encoded, Fits, bits, decoded}
 
 -- an answer that is not refusal 0 has a number from 1 on, if it is a refusal
 pub numbered : {A : Type 0} {a : A} {n : ℕ} (refusal : ℕ → A) → a ≢ refusal 0 → a ≡ refusal n → 1 ≤ n

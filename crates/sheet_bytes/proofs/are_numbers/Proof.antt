@@ -8,10 +8,10 @@ use lib.ListN.{getD}
 use borrow.Author.Tests.{le-leb, lt-leb}
 use Rattle.matrix.specs.Range.{everyFrom, every}
 use Rattle.matrix.specs.Laws.Range.{every-next, every-stop}
-use Rattle.sheet.specs.Sheet.{isNumber}
+use Rattle.sheet_bytes.specs.Sheet.{isNumber}
 use borrow.Author.Needs.{needs}
-use Rattle.sheet.proofs.are_numbers.Statement.{statement}
-use Rattle.sheet.proofs.are_numbers.Tie as tie
+use Rattle.sheet_bytes.proofs.are_numbers.Statement.{statement}
+use Rattle.sheet_bytes.proofs.are_numbers.Tie as tie
 
 abbrev number-at : List ℕ → ℕ → Bool
 number-at s n = isNumber (getD s n 0)

@@ -5,8 +5,8 @@ use lib.ListN.{length}
 use borrow.Author.Needs.{needs}
 use borrow.Author.Tests.{eq-eqb, not-true, not-false}
 use Rattle.clifford.specs.Columns.{areColumnBytes, arePermutation}
-use Rattle.sheet.proofs.columns_refusal.Statement.{statement}
-use Rattle.sheet.proofs.columns_refusal.Tie as tie
+use Rattle.sheet_bytes.proofs.columns_refusal.Statement.{statement}
+use Rattle.sheet_bytes.proofs.columns_refusal.Tie as tie
 
 bytes : (c : tie.Else1) → areColumnBytes (c .before .before .args .columns) ≡ true
 bytes c = sym (c .before .are-column-bytes .ensures) ∙ not-false _ (c .if1 .left)

@@ -1,11 +1,11 @@
 -- Each case is that of the definition.
 use mathlib.Core.Path.{sym, subst}
 use Rattle.file.specs.declared.Answer.the-variants.{Refused}
-use Rattle.dimfrets.specs.Encoding.{answerParts, WordOf}
-use Rattle.dimfrets.specs.Laws.Encoding.{numbered}
+use Rattle.answer_word.specs.Encoding.{answerParts, WordOf}
+use Rattle.answer_word.specs.Laws.Encoding.{numbered}
 use borrow.Author.Needs.{needs}
-use Rattle.dimfrets.proofs.encode_answer.Statement.{statement}
-use Rattle.dimfrets.proofs.encode_answer.Tie as tie
+use Rattle.answer_word.proofs.encode_answer.Statement.{statement}
+use Rattle.answer_word.proofs.encode_answer.Tie as tie
 
 enum-known-answer : tie.Need-enum-known-answer
 enum-known-answer c = search needs

@@ -2,9 +2,9 @@
 use mathlib.Core.Path.{sym, _∙_}
 use borrow.Author.Needs.{needs}
 use borrow.Author.Tests.{lt-ltb, le-ltb, not-true, not-false}
-use Rattle.sheet.specs.Sheet.{shortest, longest}
-use Rattle.sheet.proofs.bytes_refusal.Statement.{statement}
-use Rattle.sheet.proofs.bytes_refusal.Tie as tie
+use Rattle.sheet_bytes.specs.Sheet.{shortest, longest}
+use Rattle.sheet_bytes.proofs.bytes_refusal.Statement.{statement}
+use Rattle.sheet_bytes.proofs.bytes_refusal.Tie as tie
 
 returns : tie.Need-returns
 returns c = rw (lt-ltb _ shortest (c .if1 .taken))

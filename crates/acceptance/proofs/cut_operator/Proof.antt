@@ -15,12 +15,12 @@ use Rattle.clifford.specs.Columns.{columnBytes, isEven}
 use Rattle.reduction.specs.declared.Normal.{Normal}
 use Rattle.reduction.specs.Reduction.{remaining}
 use Rattle.reduction.specs.Result.{WholeOf}
-use Rattle.operator.specs.declared.Cut.{Cut}
-use Rattle.operator.specs.Acceptance.{isProper, entriesRefusal}
-use Rattle.operator.specs.Cutting.{CutAs}
-use Rattle.operator.specs.Laws.Cutting.{even-is-proper, refused-as}
-use Rattle.operator.proofs.cut_operator.Statement.{statement}
-use Rattle.operator.proofs.cut_operator.Tie as tie
+use Rattle.acceptance.specs.declared.Cut.{Cut}
+use Rattle.acceptance.specs.Acceptance.{isProper, entriesRefusal}
+use Rattle.acceptance.specs.Cutting.{CutAs}
+use Rattle.acceptance.specs.Laws.Cutting.{even-is-proper, refused-as}
+use Rattle.acceptance.proofs.cut_operator.Statement.{statement}
+use Rattle.acceptance.proofs.cut_operator.Tie as tie
 
 -- the ways out behind the tests of the entries
 module _ (k : ℕ) (m : List ℤ) (w : isWithin k (entry m) ≡ true) (o : isOrthogonal k (entry m) ≡ true) (f : Normal) (whole : WholeOf k m f) (cs : List ℕ) (c : cs ≡ columnBytes (entry (f .matrix))) where

@@ -15,9 +15,9 @@ use Rattle.clifford.specs.Laws.Columns.{Permutation, matrix-permutation, matrix
 use Rattle.clifford.specs.Laws.Sign.{even-proper, proper-even}
 use Rattle.reduction.specs.Reduction.{remaining}
 use Rattle.reduction.specs.Laws.NormalForm.{cutting}
-use Rattle.operator.specs.declared.Cut.{Cut}
-use Rattle.operator.specs.Acceptance.{isProper}
-use Rattle.operator.specs.Cutting.{CutAs}
+use Rattle.acceptance.specs.declared.Cut.{Cut}
+use Rattle.acceptance.specs.Acceptance.{isProper}
+use Rattle.acceptance.specs.Cutting.{CutAs}
 
 module _ (k : ℕ) (m : List ℤ) (o : Orthogonal (operator k (entry m))) where
   -- the columns that remain, and the matrix that remains

@@ -12,7 +12,7 @@ use Rattle.matrix.specs.Array.{isWithin, isOrthogonal}
 use Rattle.matrix.specs.Laws.Test.{T-true, true-T}
 use Rattle.matrix.specs.Laws.Array.{orthogonal-sound, orthogonal-complete, within-orthogonal}
 use Rattle.file.specs.File.{largestExponent, fileLength, fileExponent, fileOperator}
-use Rattle.operator.specs.Acceptance.{isProper, entriesRefusal, fileRefusal}
+use Rattle.acceptance.specs.Acceptance.{isProper, entriesRefusal, fileRefusal}
 
 pub record Entries (A : Operator) : Type 0 where
   pub orthogonal : Orthogonal A

@@ -8,12 +8,12 @@ use Rattle.matrix.specs.Matrix.{entry}
 use Rattle.matrix.specs.Operator.{operator}
 use Rattle.file.specs.File.{largestExponent, fileLength, fileExponent}
 use Rattle.file.specs.Laws.File.{file-bounded}
-use Rattle.operator.specs.Acceptance.{entriesRefusal, fileRefusal}
-use Rattle.operator.specs.Cutting.{CutAs}
-use Rattle.operator.specs.Laws.Acceptance.{in-form}
-use Rattle.operator.specs.Laws.Cutting.{refused-as}
-use Rattle.operator.proofs.cut_file.Statement.{statement}
-use Rattle.operator.proofs.cut_file.Tie as tie
+use Rattle.acceptance.specs.Acceptance.{entriesRefusal, fileRefusal}
+use Rattle.acceptance.specs.Cutting.{CutAs}
+use Rattle.acceptance.specs.Laws.Acceptance.{in-form}
+use Rattle.acceptance.specs.Laws.Cutting.{refused-as}
+use Rattle.acceptance.proofs.cut_file.Statement.{statement}
+use Rattle.acceptance.proofs.cut_file.Tie as tie
 
 refused-requires : tie.Need-refused-requires
 refused-requires c κs = search needs

@@ -2,11 +2,11 @@
 use mathlib.Core.Path.{sym, subst}
 use Prim.Native.Nat.{_^_, _<_}
 use Rattle.operator.specs.declared.Listed.the-variants.{Refused}
-use Rattle.dimfrets.specs.Encoding.{listedParts, lettersOf, WordOf}
-use Rattle.dimfrets.specs.Laws.Encoding.{numbered}
+use Rattle.answer_word.specs.Encoding.{listedParts, lettersOf, WordOf}
+use Rattle.answer_word.specs.Laws.Encoding.{numbered}
 use borrow.Author.Needs.{needs}
-use Rattle.dimfrets.proofs.encode_listed.Statement.{statement}
-use Rattle.dimfrets.proofs.encode_listed.Tie as tie
+use Rattle.answer_word.proofs.encode_listed.Statement.{statement}
+use Rattle.answer_word.proofs.encode_listed.Tie as tie
 
 enum-known-answer : tie.Need-enum-known-answer
 enum-known-answer c = search needs

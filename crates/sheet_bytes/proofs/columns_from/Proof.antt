@@ -8,8 +8,8 @@ use lib.Seq.{getD-drop}
 use denote.Ref.{now}
 use Rattle.matrix.specs.Laws.Range.{tabulate-is, Filled, filled-none, filled-more, filled-all}
 use borrow.Author.Needs.{needs}
-use Rattle.sheet.proofs.columns_from.Statement.{statement}
-use Rattle.sheet.proofs.columns_from.Tie as tie
+use Rattle.sheet_bytes.proofs.columns_from.Statement.{statement}
+use Rattle.sheet_bytes.proofs.columns_from.Tie as tie
 
 -- byte c of those from `at` on
 abbrev byte : List ℕ → ℕ → ℕ → ℕ

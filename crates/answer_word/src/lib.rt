@@ -1,0 +1,54 @@
+// An answer as one word of 64 bits. The contracts cite specs/Encoding.antt.
+
+use file::Answer;
+use operator::Listed;
+ghost use mathlib.Core.Logic.{_≢_};
+ghost use mathlib.Core.Path.{_≡_};
+ghost use Prim.Native.Nat.{_^_, _<_};
+ghost use Rattle.answer_word.specs.Encoding.{packed, answerParts, listedParts, lettersOf, WordOf};
+
+// The lowest bit of each part of a word; that of the refusal is 1.
+const VALUE: u64 = 1 << 8;
+
+const LENGTH: u64 = 1 << 32;
+
+const LOOSE: u64 = 1 << 48;
+
+const PHASE: u64 = 1 << 56;
+
+// The word of an answer's parts.
+// Wrong, and refused: L and the phase in each other's bits; a value from bit 9 on.
+fn pack(refusal: u8, value: u32, length: u16, loose: u8, phase: u8) -> u64
+    requires { ⌜ value < 2 ^ 24 ⌝ }
+    ensures { λ r. ⌜ r ≡ packed refusal value length loose phase ⌝ }
+{
+    refusal as u64
+        + VALUE * (value as u64)
+        + LENGTH * (length as u64)
+        + LOOSE * (loose as u64)
+        + PHASE * (phase as u64)
+}
+
+// The word of an answer.
+// Wrong, and refused: the count as a length; a value beside a refusal.
+pub fn encode_answer(answer: Answer) -> u64
+    requires { ⌜ answer ≢ Answer.Refused 0 ⌝ }
+    ensures { λ r. ⌜ WordOf (answerParts answer) r ⌝ }
+{
+    match answer {
+        Answer::Count(count) => pack(0, count as u32, 0, 0, 0),
+        Answer::Refused(refusal) => pack(refusal, 0, 0, 0, 0),
+    }
+}
+
+// The word of the answer of the call for a gate list.
+// Wrong, and refused: the count as the number of letters; a refusal beside a count.
+pub fn encode_listed(answer: Listed) -> u64
+    requires { ⌜ (answer ≢ Listed.Refused 0) × (lettersOf answer < 2 ^ 16) ⌝ }
+    ensures { λ r. ⌜ WordOf (listedParts answer) r ⌝ }
+{
+    match answer {
+        Listed::Letters { count, letters } => pack(0, count as u32, letters as u16, 0, 0),
+        Listed::Refused(refusal) => pack(refusal, 0, 0, 0, 0),
+    }
+}
