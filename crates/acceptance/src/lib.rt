@@ -44,7 +44,7 @@ fn cut_operator(k: u8, m: [i64; 36]) -> Cut
     let numbers = normal.numbers;
     let remaining = normal.matrix;
     let columns = clifford::columns_of(remaining);
-    if !clifford::is_even(columns) {
+    if !sign::is_even(columns) {
         return refused(5);
     }
     Cut {

@@ -1,3 +1,2 @@
--- Theorems, a file for each subject; a file cites only those above it.
+-- Theorems.
 pub mod Columns
-pub mod Sign

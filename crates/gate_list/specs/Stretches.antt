@@ -2,7 +2,7 @@
 use mathlib.Core.List.{List}
 use Prim.Native.Nat.{ℕ, _+_, _/_, _%_}
 use Rattle.matrix.specs.Range.{tabulate}
-use Rattle.word_table.specs.Code.{encoded}
+use Rattle.word_code.specs.Code.{encoded}
 use Rattle.gate_list.specs.List.{rightOf, stretch}
 
 -- the stretch before generator h, where g is the generator before it: number 15 × (g − 1) + (h − 1)

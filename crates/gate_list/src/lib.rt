@@ -10,7 +10,7 @@ ghost use Rattle.letter.specs.Written.{Written};
 ghost use Rattle.gate_list.specs.List.{rightOf, stretch, gateList};
 ghost use Rattle.gate_list.specs.Stretches.{stretchCodes};
 
-// The stretch before generator h, where g is the generator before it, with the C of h: number 15 × (g − 1) + (h − 1), as `word_table` has words.
+// The stretch before generator h, where g is the generator before it, with the C of h: number 15 × (g − 1) + (h − 1), as `word_code` has words.
 const STRETCHES: [u64; 225] = [
     0o6,
     0o6442,
@@ -278,7 +278,7 @@ fn write_stretch(codes: &[u64; 225], g: usize, h: usize, out: &mut [u8], at: usi
     requires { ⌜ (1 ≤ g) × (g ≤ 15) × (1 ≤ h) × (h ≤ 15) × (at + 18 ≤ length (now out)) × (now codes ≡ stretchCodes) ⌝ }
     ensures { λ r. ⌜ Written (stretch (rightOf g) h) at (now (out .entry)) (now (out .exit)) r ⌝ }
 {
-    word_table::write_code(codes[(g - 1) * 15 + (h - 1)], out, at)
+    word_code::write_code(codes[(g - 1) * 15 + (h - 1)], out, at)
 }
 
 // The number of CS itself: a generator between two identities, so that the first stretch of a list may stand behind it.

@@ -4,14 +4,14 @@ use file::Answer;
 ghost use Rattle.io.specs.Counts.{Counts};
 ghost use Rattle.file.specs.File.{Appended};
 ghost use Rattle.gate.specs.Reading.{reading};
-ghost use Rattle.text.specs.Text.{withoutLineFeed};
+ghost use Rattle.text_read.specs.Text.{withoutLineFeed};
 ghost use Rattle.multiply_gates.specs.Output.{outputOf};
 
 // The bytes for a gate list, at the front of `out`.
 fn answer(input: &[u8], out: &mut [u8; 256]) -> usize
     ensures { λ r. ⌜ Appended (outputOf (reading (withoutLineFeed (now (input .entry))))) 0 (now (out .entry)) (now (out .exit)) r × Counts r (now (out .exit)) ⌝ }
 {
-    let letters = text::without_line_feed(input);
+    let letters = text_read::without_line_feed(input);
     let answer = gate::gates_to_operator(letters, out);
     match answer {
         Answer::Count(_) => file::FILE_LENGTH,

@@ -4,8 +4,8 @@ use Prim.Native.Nat.{ℕ}
 use Rattle.file.specs.declared.Answer.{Answer}
 use Rattle.file.specs.declared.Answer.the-variants.{Count, Refused}
 use Rattle.order.specs.Order.{orderAnswer}
-use Rattle.text.specs.declared.Number.{Number}
-use Rattle.text.specs.declared.Number.the-variants.{Is, Unknown}
+use Rattle.text_read.specs.declared.Number.{Number}
+use Rattle.text_read.specs.declared.Number.the-variants.{Is, Unknown}
 use Rattle.text.specs.Text.{orderLine, refusedLine}
 
 abbrev pub answerLine : Answer → List ℕ

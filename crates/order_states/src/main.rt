@@ -1,11 +1,11 @@
 // Says how many CS states to order: the arguments are the count and the spoilage in thousandths, in decimal.
 
 use file::Answer;
-use text::Number;
+use text_read::Number;
 ghost use Rattle.io.specs.Counts.{Counts};
 ghost use Rattle.file.specs.File.{Appended};
 ghost use Rattle.order.specs.Order.{orderAnswer};
-ghost use Rattle.text.specs.Text.{numberOf};
+ghost use Rattle.text_read.specs.Text.{numberOf};
 ghost use Rattle.order_states.specs.Output.{answerLine, orderText};
 
 // The line for two numbers, at the front of `out`.
@@ -23,8 +23,8 @@ fn order_line(t: u64, p: u64, out: &mut [u8; 32]) -> usize
 fn answer(count: &[u8], spoilage: &[u8], out: &mut [u8; 32]) -> usize
     ensures { λ r. ⌜ Appended (orderText (numberOf (now (count .entry))) (numberOf (now (spoilage .entry)))) 0 (now (out .entry)) (now (out .exit)) r × Counts r (now (out .exit)) ⌝ }
 {
-    let t = text::read_number(count);
-    let p = text::read_number(spoilage);
+    let t = text_read::read_number(count);
+    let p = text_read::read_number(spoilage);
     match t {
         Number::Is(t) => match p {
             Number::Is(p) => order_line(t, p, out),

@@ -57,7 +57,7 @@ fn columns_refusal(columns: [u8; 6]) -> u8
     if !clifford::rows_differ(columns) {
         return 12;
     }
-    if !clifford::is_even(columns) {
+    if !sign::is_even(columns) {
         return 12;
     }
     0

@@ -1,4 +1,3 @@
 -- Theorems, a file for each subject; a file cites only those above it.
 pub mod Text
-pub mod Number
 pub mod Trial

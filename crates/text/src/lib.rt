@@ -1,13 +1,12 @@
-// Text written into a lent buffer, and read: bytes, decimal numbers, a line of a word and numbers. The contracts cite specs/Text.antt.
+// Text written into a lent buffer: bytes, decimal numbers, a line of a word and numbers. The contracts cite specs/Text.antt.
 //
 // A function that writes takes the place where it begins and returns the place after what it wrote; the other bytes stay.
 
-ghost use mathlib.Core.Path.{_≡_};
 ghost use mathlib.Core.List.{[], _∷_};
-ghost use Prim.Native.Nat.{_+_, _*_, _-_, _<_, _≤_};
+ghost use Prim.Native.Nat.{_+_, _-_, _<_, _≤_};
 ghost use lib.ListN.{length};
 ghost use Rattle.file.specs.File.{Appended};
-ghost use Rattle.text.specs.Text.{decimal, spaced, line, capped, numberOf, withoutLineFeed};
+ghost use Rattle.text.specs.Text.{decimal, spaced, line};
 
 // One byte.
 pub fn write_byte(b: u8, out: &mut [u8], at: usize) -> usize
@@ -81,60 +80,4 @@ pub fn write_line(word: &[u8], numbers: &[u8], out: &mut [u8], at: usize) -> usi
     let after = write_bytes(word, out, at);
     let end = write_spaced(numbers, out, after);
     write_byte(b'\n', out, end)
-}
-
-// The largest number that is read as itself.
-pub const LARGEST_NUMBER: u64 = 1000000;
-
-// What bytes are, read as a decimal number.
-pub enum Number {
-    Is(u64),
-    Unknown,
-}
-
-// A number, or the largest that is read as itself.
-fn cap(n: u64) -> u64
-    ensures { λ r. ⌜ r ≡ capped n ⌝ }
-{
-    if LARGEST_NUMBER < n {
-        return LARGEST_NUMBER;
-    }
-    n
-}
-
-// A decimal number of any length.
-pub fn read_number(bytes: &[u8]) -> Number
-    ensures { λ r. ⌜ r ≡ numberOf (now (bytes .entry)) ⌝ }
-{
-    if bytes.len() == 0 {
-        return Number::Unknown;
-    }
-    let mut n = 0u64;
-    let mut i = 0usize;
-    while i < bytes.len() {
-        let b = bytes[i];
-        if b < b'0' {
-            return Number::Unknown;
-        }
-        if b'9' < b {
-            return Number::Unknown;
-        }
-        n = cap(10 * n + (b - b'0') as u64);
-        i += 1;
-    }
-    Number::Is(n)
-}
-
-// The bytes without one line feed at their very end.
-pub fn without_line_feed(bytes: &[u8]) -> &[u8]
-    ensures { λ r. ⌜ now r ≡ withoutLineFeed (now (bytes .entry)) ⌝ }
-{
-    if bytes.len() == 0 {
-        return bytes;
-    }
-    let last = bytes.len() - 1;
-    if bytes[last] == b'\n' {
-        return &bytes[..last];
-    }
-    bytes
 }

@@ -1,13 +1,12 @@
-// The tables of words, and the word of a Clifford written from them. The contracts cite the definitions of `word` and of specs/Code.antt.
+// The tables of words, and the word of a Clifford written from them. The contracts cite the definitions of `word` and `word_code`.
 
-ghost use mathlib.Core.List.{List, []};
+ghost use mathlib.Core.List.{[]};
 ghost use mathlib.Core.Path.{_≡_};
 ghost use Prim.Native.Nat.{_+_, _<_, _≤_};
 ghost use lib.ListN.{length, getD};
-ghost use Rattle.letter.specs.declared.Gate.{Gate};
 ghost use Rattle.letter.specs.Written.{Written};
 ghost use Rattle.word.specs.Word.{partWords, rotationWords, onQubit, rotationsOf, partsOf, signWord, cliffordWord};
-ghost use Rattle.word_table.specs.Code.{letterAt, encoded};
+ghost use Rattle.word_code.specs.Code.{encoded};
 
 // The tables of specs/Word.antt of `word`. A word is a number; its letters are octal digits, the first one lowest: 1 to 6 for H, h, S, s, Z, C.
 const ROTATIONS: [u64; 36] = [
@@ -107,42 +106,6 @@ const PARTS: [u64; 16] = [
     0,
 ];
 
-// The letter of an octal digit.
-fn letter_at(digit: u64) -> u8
-    ensures { λ r. ⌜ r ≡ letterAt digit ⌝ }
-{
-    match digit {
-        1 => b'H',
-        2 => b'h',
-        3 => b'S',
-        4 => b's',
-        5 => b'Z',
-        6 => b'C',
-        _ => 0,
-    }
-}
-
-// The most letters of a word in a table.
-const LONGEST: usize = 18;
-
-// Writes the letters of a number from `at` on and returns the place after them; the rest of the buffer stays.
-pub fn write_code(code: u64, out: &mut [u8], at: usize) -> usize
-    requires { ⌜ at + 18 ≤ length (now out) ⌝ }
-    ensures { λ r. ⌜ ((w : List Gate) → code ≡ encoded w → length w ≤ 18 → Written w at (now (out .entry)) (now (out .exit)) r) ⌝ }
-{
-    let mut rest = code;
-    let mut i = 0usize;
-    while i < LONGEST {
-        if rest == 0 {
-            return at + i;
-        }
-        out[at + i] = letter_at(rest % 8);
-        rest = rest / 8;
-        i += 1;
-    }
-    at + i
-}
-
 // The number of a rotation of the first or of the second half.
 fn rotation_code(row: usize, second: bool) -> u64
     requires { ⌜ row < 36 ⌝ }
@@ -169,8 +132,8 @@ fn write_rotations(even: bool, local: [u8; 6], out: &mut [u8], at: usize) -> usi
 {
     let first = decomposition::rotation_row(even, local[0], local[1]);
     let second = decomposition::rotation_row(even, local[3], local[4]);
-    let next = write_code(rotation_code(first, false), out, at);
-    write_code(rotation_code(second, true), out, next)
+    let next = word_code::write_code(rotation_code(first, false), out, at);
+    word_code::write_code(rotation_code(second, true), out, next)
 }
 
 // Writes both parts.
@@ -180,8 +143,8 @@ fn write_parts(columns: [u8; 6], out: &mut [u8], at: usize) -> usize
 {
     let first = decomposition::low_bits(columns, 0);
     let second = 8 + decomposition::low_bits(columns, 3);
-    let next = write_code(part_code(first), out, at);
-    write_code(part_code(second), out, next)
+    let next = word_code::write_code(part_code(first), out, at);
+    word_code::write_code(part_code(second), out, next)
 }
 
 // Writes the sign.

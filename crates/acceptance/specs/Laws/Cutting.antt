@@ -12,7 +12,7 @@ use Rattle.matrix.specs.Laws.Test.{T-true, true-T}
 use Rattle.matrix.specs.Laws.Operator.{same-operator-of, same-operator-sym, same-proper}
 use Rattle.clifford.specs.Columns.{columnsMatrix, columnBytes, isEven}
 use Rattle.clifford.specs.Laws.Columns.{Permutation, matrix-permutation, matrix-columns}
-use Rattle.clifford.specs.Laws.Sign.{even-proper, proper-even}
+use Rattle.sign.specs.Laws.Sign.{even-proper, proper-even}
 use Rattle.reduction.specs.Reduction.{remaining}
 use Rattle.reduction.specs.Laws.NormalForm.{cutting}
 use Rattle.acceptance.specs.declared.Cut.{Cut}

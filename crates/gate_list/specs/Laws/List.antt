@@ -18,7 +18,7 @@ use Rattle.matrix.specs.Laws.Operator.{same-operator-refl, same-operator-sym, s
 use Rattle.matrix.specs.Laws.Array.{everywhere-sound}
 use Rattle.clifford.specs.Columns.{columnsMatrix, columnBytes, arePermutation, isEven}
 use Rattle.clifford.specs.Laws.Columns.{permutation-sound, permutation-complete, matrix-permutation, matrix-columns}
-use Rattle.clifford.specs.Laws.Sign.{proper-even}
+use Rattle.sign.specs.Laws.Sign.{proper-even}
 use Rattle.residue.specs.Generator.{table, place, generator}
 use Rattle.residue.specs.Laws.Table.{numbered}
 use Rattle.reduction.specs.Reduction.{count, taken, remaining, normalForm}

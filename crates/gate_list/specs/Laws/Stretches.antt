@@ -12,7 +12,7 @@ use Rattle.matrix.specs.Laws.Range.{getD-tabulate}
 use Rattle.clifford.specs.Columns.{isEven}
 use Rattle.residue.specs.Laws.Table.{numbered}
 use Rattle.word.specs.Word.{partWords, partInverses, localColumns, rotationWords, unsignedWord, cliffordWord}
-use Rattle.word_table.specs.Code.{encoded}
+use Rattle.word_code.specs.Code.{encoded}
 use Rattle.gate_list.specs.List.{lefts, rights, leftOf, rightOf, stretch}
 use Rattle.gate_list.specs.Stretches.{stretchCodes}
 

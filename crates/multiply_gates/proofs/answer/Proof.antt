@@ -10,7 +10,8 @@ use Rattle.file.specs.Laws.Written.{appended-as}
 use Rattle.file.specs.File.{fileLength}
 use Rattle.gate.specs.Reading.{Reading, reading}
 use Rattle.gate.specs.Promise.{ProductPromise}
-use Rattle.text.specs.Text.{refusedWord, withoutLineFeed}
+use Rattle.text.specs.Text.{refusedWord}
+use Rattle.text_read.specs.Text.{withoutLineFeed}
 use Rattle.text.specs.Laws.Text.{line-length, within}
 use Rattle.multiply_gates.specs.Laws.Output.{filed, refused}
 use Rattle.multiply_gates.proofs.answer.Statement.{statement}

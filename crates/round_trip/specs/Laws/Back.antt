@@ -16,7 +16,7 @@ use Rattle.matrix.specs.Laws.Operator.{same-operator-of, same-operator-sym, sam
 use Rattle.matrix.specs.Laws.Array.{listed-same, length-listed, least-form}
 use Rattle.clifford.specs.Columns.{columnsMatrix, columnBytes, isColumnByte, areColumnBytes, arePermutation, isEven, Clifford}
 use Rattle.clifford.specs.Laws.Columns.{matrix-permutation, matrix-columns, permutation-sound, permutation-complete, columns-orthogonal, orthogonal-permutation, orthogonal-clifford, clifford-orthogonal}
-use Rattle.clifford.specs.Laws.Sign.{even-proper, proper-even}
+use Rattle.sign.specs.Laws.Sign.{even-proper, proper-even}
 use Rattle.file.specs.File.{fileExponent, fileMatrix, fileOf, fileOperator}
 use Rattle.file.specs.Laws.File.{length-file, exponent-back, matrix-back, length-file-matrix, orthogonal-short}
 use Rattle.reduction.specs.Reduction.{count, taken, remaining, sheet, sheetOf, sheetColumns, sheetOperator}

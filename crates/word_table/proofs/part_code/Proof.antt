@@ -3,7 +3,7 @@ use mathlib.Core.List.{[]}
 use lib.ListN.{List·getD-map}
 use borrow.Author.Needs.{needs}
 use Rattle.word.specs.Word.{partWords}
-use Rattle.word_table.specs.Code.{encoded}
+use Rattle.word_code.specs.Code.{encoded}
 use Rattle.word_table.proofs.part_code.Statement.{statement}
 use Rattle.word_table.proofs.part_code.Tie as tie
 
