@@ -33,10 +33,10 @@ fn cut_operator(k: u8, m: [i64; 36]) -> Cut
     requires { ⌜ (k ≤ 60) × Bounded (2 ^ 30) (entry m) ⌝ }
     ensures { λ r. ⌜ CutAs (entriesRefusal (operator k (entry m))) k m r ⌝ }
 {
-    if !matrix::is_within(k, m) {
+    if !orthogonality::is_within(k, m) {
         return refused(3);
     }
-    if !matrix::is_orthogonal(k, m) {
+    if !orthogonality::is_orthogonal(k, m) {
         return refused(4);
     }
     let normal = reduction::normal_form(k, m);

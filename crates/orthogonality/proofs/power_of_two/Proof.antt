@@ -9,8 +9,8 @@ use lib.Pow.{pow-mono}
 use mir.Facts.{toZ-ofZ}
 use mir.Syntax.{w64}
 use mir.Val.{SFits}
-use Rattle.matrix.proofs.power_of_two.Statement.{statement}
-use Rattle.matrix.proofs.power_of_two.Tie as tie
+use Rattle.orthogonality.proofs.power_of_two.Statement.{statement}
+use Rattle.orthogonality.proofs.power_of_two.Tie as tie
 
 shifted : (k : ℕ) → k ≤ 60 → (1 * 2 ^ k) % 2 ^ 64 ≡ 2 ^ k
 shifted k h = let l : 2 ^ k ≤ 2 ^ 60 = pow-mono h in rw one-mul (mod-eq-of-lt (omega arith))

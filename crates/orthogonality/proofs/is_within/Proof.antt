@@ -9,18 +9,18 @@ use lib.Dec.{lit<}
 use lib.Signed.{leZ}
 use mir.Syntax.{w64}
 use mir.Val.{toZ, ofZ}
 use Rattle.matrix.specs.Range.{everyFrom}
 use Rattle.matrix.specs.Matrix.{entry}
 use Rattle.matrix.specs.Array.{Bounded, isWithin}
 use Rattle.matrix.specs.Laws.Integer.{above→not-le, not-above→le}
 use Rattle.matrix.specs.Laws.Range.{every-next, every-stop}
 use Rattle.matrix.specs.Laws.Array.{entry-flat}
 use Rattle.matrix.specs.Laws.Machine.{kept, Sized, fits, again, stored, mul}
 use borrow.Author.Needs.{needs}
-use Rattle.matrix.proofs.is_within.Statement.{statement}
-use Rattle.matrix.proofs.is_within.Tie as tie
-use Rattle.matrix.proofs.is_within.Reads as reads
-use Rattle.matrix.proofs.is_within.Lts as lts
+use Rattle.orthogonality.proofs.is_within.Statement.{statement}
+use Rattle.orthogonality.proofs.is_within.Tie as tie
+use Rattle.orthogonality.proofs.is_within.Reads as reads
+use Rattle.orthogonality.proofs.is_within.Lts as lts
 
 abbrev square-at : List ℤ → ℕ → ℤ
 square-at m n = entry m (n / 6) (n % 6) *ℤ entry m (n / 6) (n % 6)

@@ -4,13 +4,13 @@ use borrow.Author.Needs.{needs}
 use borrow.Author.Tests.{lt-ltb, le-ltb}
 use lib.IntN.{pos, _*ℤ_, *ℤ-zero}
 use lib.Dec.{lit<}
 use Rattle.matrix.specs.Integer.{equals}
 use Rattle.matrix.specs.Matrix.{δ}
 use Rattle.matrix.specs.Laws.Integer.{*ℤ-unit-r}
 use Rattle.matrix.specs.Laws.Sum.{δ-same, δ-other}
 use Rattle.matrix.specs.Laws.Machine.{equal-bits}
-use Rattle.matrix.proofs.rows_orthogonal.Statement.{statement}
-use Rattle.matrix.proofs.rows_orthogonal.Tie as tie
+use Rattle.orthogonality.proofs.rows_orthogonal.Statement.{statement}
+use Rattle.orthogonality.proofs.rows_orthogonal.Tie as tie
 
 returns : tie.Need-returns
 returns c = rw (lt-ltb _ _ (c .if1 .taken))

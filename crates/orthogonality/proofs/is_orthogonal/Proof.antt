@@ -9,13 +9,13 @@ use borrow.Author.Tests.{not-true, not-false}
 use lib.IntN.{ℤ, pos}
 use mir.Syntax.{w64}
 use mir.Val.{toZ}
 use Rattle.matrix.specs.Range.{everyFrom}
 use Rattle.matrix.specs.Matrix.{entry}
 use Rattle.matrix.specs.Array.{orthogonalAt, isOrthogonal}
 use Rattle.matrix.specs.Laws.Range.{every-next, every-stop}
 use Rattle.matrix.specs.Laws.Machine.{kept}
-use Rattle.matrix.proofs.is_orthogonal.Statement.{statement}
-use Rattle.matrix.proofs.is_orthogonal.Tie as tie
+use Rattle.orthogonality.proofs.is_orthogonal.Statement.{statement}
+use Rattle.orthogonality.proofs.is_orthogonal.Tie as tie
 
 abbrev test-at : ℕ → List ℤ → ℕ → Bool
 test-at k m n = orthogonalAt (pos (2 ^ k)) (entry m) (n / 6) (n % 6)
