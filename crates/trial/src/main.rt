@@ -35,18 +35,6 @@ fn count_case(name: &[u8], k: u8, first: u16, x: u16) {
     show::count_case(name, diagonal(k, first, x));
 }
 
-// A gate list whose operator is x times the identity, by the operator's name.
-fn same_case(letters: &[u8], name: &[u8], x: u16) {
-    let mut product = [0u8; 73];
-    let answer = gate::gates_to_operator(letters, &mut product);
-    show::show(letters);
-    let file = diagonal(0, x, x);
-    if check::same(&product, &file) {
-        show::show(name);
-    }
-    show::end_line(b", count ", answer);
-}
-
 fn operators() {
     show::cut_case(b"I, k 0", diagonal(0, 1, 1));
     show::cut_case(b"2 I, k 2", diagonal(2, 2, 2));
@@ -66,21 +54,21 @@ fn refused() {
 }
 
 fn gate_lists() {
-    show::gates_case(b"C");
-    show::gates_case(b"CC");
-    show::gates_case(b"Z");
-    show::gates_case(b"CHC");
+    show_gates::gates_case(b"C");
+    show_gates::gates_case(b"CC");
+    show_gates::gates_case(b"Z");
+    show_gates::gates_case(b"CHC");
 }
 
 fn names() {
-    same_case(b"HH", b": I", 1);
-    same_case(b"ZZ", b": -I", MINUS_ONE);
-    same_case(b"CCCCCCCC", b": I", 1);
+    show_gates::same_case(b"HH", b": I", diagonal(0, 1, 1));
+    show_gates::same_case(b"ZZ", b": -I", diagonal(0, MINUS_ONE, MINUS_ONE));
+    show_gates::same_case(b"CCCCCCCC", b": I", diagonal(0, 1, 1));
 }
 
 fn listed() {
-    show::list_case(b"gates of I", diagonal(0, 1, 1));
-    show::list_case(b"gates of the six rows", EXAMPLE);
+    show_gates::list_case(b"gates of I", diagonal(0, 1, 1));
+    show_gates::list_case(b"gates of the six rows", EXAMPLE);
 }
 
 fn sheets() {

@@ -4,8 +4,8 @@ use Prim.Native.Nat.{_-_, _≤_}
 use native.Mathlib.Omega.{arith}
 use lib.ListN.{length}
 use borrow.Author.Needs.{needs}
-use Rattle.show.proofs.cs_gates.Statement.{statement}
-use Rattle.show.proofs.cs_gates.Tie as tie
+use Rattle.show_gates.proofs.cs_gates.Statement.{statement}
+use Rattle.show_gates.proofs.cs_gates.Tie as tie
 
 abbrev Inv-loop : tie.InvT-loop
 Inv-loop letters count₀ n₀ count n = (n ≤ length letters) × (count ≤ n)

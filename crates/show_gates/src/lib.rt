@@ -1,0 +1,70 @@
+// A line for a gate list that is read or handed out.
+
+use file::Answer;
+use operator::Listed;
+
+// The operator that a gate list multiplies to.
+fn show_product(letters: &[u8]) {
+    let mut file = [0u8; 73];
+    gate::gates_to_operator(letters, &mut file);
+    show::show_cut(&file);
+}
+
+// A gate list, by its operator.
+pub fn gates_case(letters: &[u8]) {
+    show::show(letters);
+    show_product(letters);
+}
+
+// A gate list, by a file's name if it multiplies to the file's operator.
+pub fn same_case(letters: &[u8], name: &[u8], file: [u8; 73]) {
+    let mut product = [0u8; 73];
+    let answer = gate::gates_to_operator(letters, &mut product);
+    show::show(letters);
+    if check::same(&product, &file) {
+        show::show(name);
+    }
+    show::end_line(b", count ", answer);
+}
+
+// How many letters are C.
+fn cs_gates(letters: &[u8]) -> usize {
+    let mut count = 0usize;
+    let mut n = 0usize;
+    while n < letters.len() {
+        if letters[n] == b'C' {
+            count += 1;
+        }
+        n += 1;
+    }
+    count
+}
+
+// The letters C of a gate list, and the operator that it multiplies to.
+fn show_list(letters: &[u8]) {
+    show::show(b", letters C ");
+    io::print_decimal(1, cs_gates(letters) as u64);
+    show::show(b"; multiplied");
+    show_product(letters);
+}
+
+// What was written into the buffer for a gate list, if it has as many letters as the answer says.
+fn end_list(answer: Listed, buffer: &[u8]) {
+    match answer {
+        Listed::Letters { count, letters } => {
+            show::show_number(b": count ", count);
+            let list = show::front(buffer);
+            if list.len() == letters {
+                show_list(list);
+            }
+        }
+        Listed::Refused(n) => show::end_line(b"", Answer::Refused(n)),
+    }
+}
+
+// An operator file, by its gate list.
+pub fn list_case(name: &[u8], file: [u8; 73]) {
+    let mut gates = [0u8; 7424];
+    show::show(name);
+    end_list(operator::operator_to_gates(&file, &mut gates), &gates);
+}
