@@ -11,7 +11,7 @@ use Rattle.letter.specs.declared.Gate.{Gate}
 use Rattle.letter.specs.declared.Letter.the-variants.{Unknown}
 use Rattle.letter.specs.Gate.{letter, gateOf}
 use Rattle.gate.specs.Product.{productOf, MultipliesTo}
-use Rattle.gate.specs.Reading.{gates, productFile, reading, operatorAnswer, operatorBuffer}
+use Rattle.gate.specs.Reading.{gates, leastOf, productFile, reading, operatorAnswer, operatorBuffer}
 
 -- the list bs is read as the gates w
 pub record ReadInto (bs : List ℕ) (w : List Gate) : Type 0 where
@@ -20,6 +20,8 @@ pub record ReadInto (bs : List ℕ) (w : List Gate) : Type 0 where
   -- operator, and its exponent is the product's least one
   pub multiplies : MultipliesTo w (fileOperator (productFile w))
   pub least : LeastExponent (productOf w) (fileExponent (productFile w))
+  -- the count answered is that exponent
+  pub count : fileExponent (productFile w) ≡ leastOf w .exponent
 
 -- "whose product has a least exponent above 28"
 pub record Deep (w : List Gate) : Type 0 where

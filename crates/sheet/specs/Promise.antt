@@ -9,10 +9,9 @@ use lib.ListN.{length}
 use Rattle.matrix.specs.List.{sameList}
 use Rattle.matrix.specs.Operator.{SameOperator, LeastExponent}
 use Rattle.matrix.specs.Array.{leastForm}
-use Rattle.matrix.specs.Laws.Array.{operatorOf}
 use Rattle.file.specs.declared.Answer.{Answer}
 use Rattle.file.specs.declared.Answer.the-variants.{Count, Refused}
-use Rattle.file.specs.File.{fileLength, fileOf, written}
+use Rattle.file.specs.File.{fileLength, fileExponent, fileOperator, fileOf, written}
 use Rattle.reduction.specs.Reduction.{sheet, sheetOperator}
 use Rattle.file.specs.declared.Read.{Read}
 use Rattle.sheet_bytes.specs.Sheet.{sheetRefusal, sheetLeast}
@@ -29,6 +28,10 @@ pub record SheetRead (s : List ℕ) (r : Read) : Type 0 where
   pub exponent : sheetRefusal s ≡ 0 → r .exponent ≡ sheetLeast s .exponent
   pub matrix : sheetRefusal s ≡ 0 → r .matrix ≡ sheetLeast s .matrix
 
+-- the operator file of a sheet: "Files written by us carry the least exponent"
+abbrev pub sheetFile : List ℕ → List ℕ
+sheetFile s = fileOf (sheetLeast s .exponent) (sheetLeast s .matrix)
+
 -- the answer, where the lent buffer has n bytes: "Sheets 10, 11, 12, 13, 6", and 6 is "shorter than … 73 bytes for an operator"
 unfoldable pub operatorAnswer : List ℕ → ℕ → Answer
 operatorAnswer s n = cond (eqb (sheetRefusal s) 0) (cond (ltb n fileLength) (Refused 6) (Count (sheetLeast s .exponent))) (Refused (sheetRefusal s))
@@ -36,13 +39,15 @@ operatorAnswer s n = cond (eqb (sheetRefusal s) 0) (cond (ltb n fileLength) (Ref
 -- the buffer afterwards
 unfoldable pub operatorBuffer : List ℕ → List ℕ → List ℕ
 operatorBuffer s old =
-    cond (eqb (sheetRefusal s) 0) (cond (ltb (length old) fileLength) old (written old (fileOf (sheetLeast s .exponent) (sheetLeast s .matrix)))) old
+    cond (eqb (sheetRefusal s) 0) (cond (ltb (length old) fileLength) old (written old (sheetFile s))) old
 
 pub record OperatorPromise (s old new : List ℕ) (a : Answer) : Type 0 where
   pub answer : a ≡ operatorAnswer s (length old)
   pub buffer : new ≡ operatorBuffer s old
-  -- demand 2: the file's operator is the sheet's, its generators in order times its Clifford
-  pub multiplies : sheetRefusal s ≡ 0 → SameOperator (operatorOf (sheetLeast s)) (sheetOperator s)
+  -- demand 2: the operator of the file written is the sheet's, its generators in order times its Clifford
+  pub multiplies : sheetRefusal s ≡ 0 → SameOperator (fileOperator (sheetFile s)) (sheetOperator s)
   -- demand 3: the count is the operator's least exponent, and the number of the sheet's generators
   pub least : sheetRefusal s ≡ 0 → LeastExponent (sheetOperator s) (sheetLeast s .exponent)
   pub exact : sheetRefusal s ≡ 0 → length s ≡ sheetLeast s .exponent + 6
+  -- it is the exponent of the file written
+  pub count : fileExponent (sheetFile s) ≡ sheetLeast s .exponent

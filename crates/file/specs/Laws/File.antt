@@ -11,7 +11,7 @@ use Rattle.matrix.specs.Array.{Bounded}
 use Rattle.matrix.specs.Laws.Range.{length-tabulate, getD-tabulate, tabulate-is}
 use Rattle.matrix.specs.Laws.Machine.{mag-le}
 use Rattle.matrix.specs.Laws.Array.{entry-flat, orthogonal-bounded}
-use Rattle.file.specs.File.{largestExponent, fileLength, fileExponent, signed16, fileEntry, fileMatrix, Short, bits16, fileByte, fileOf}
+use Rattle.file.specs.File.{largestExponent, fileLength, fileExponent, signed16, fileEntry, fileMatrix, fileOperator, Short, bits16, fileByte, fileOf}
 use Rattle.file.specs.Laws.Bytes.{signed16-bits16, signed16-size, low-byte, high-byte}
 
 -- ---- reading back
@@ -72,3 +72,6 @@ bounded-short m s = record {
 -- every operator that a file may carry
 pub orthogonal-short : (k : ℕ) (m : List ℤ) → k ≤ largestExponent → Orthogonal (operator k (entry m)) → Short m
 orthogonal-short k m h o = bounded-short m (orthogonal-bounded k 14 (entry m) o (omega arith))
+
+pub operator-back : (k : ℕ) (m : List ℤ) → k ≤ largestExponent → Orthogonal (operator k (entry m)) → length m ≡ 36 → fileOperator (fileOf k m) ≡ operator k (entry m)
+operator-back k m h o l = ap₂ (λ x y. operator x (entry y)) (exponent-back k m) (matrix-back k m (orthogonal-short k m h o) l)

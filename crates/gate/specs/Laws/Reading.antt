@@ -1,5 +1,5 @@
 -- What a list is read into, and which place of a list that is not read earns its refusal.
-use mathlib.Core.Path.{_≡_, refl, sym, ap, ap₂, subst, _∙_}
+use mathlib.Core.Path.{_≡_, refl, sym, ap, subst, _∙_}
 use mathlib.Core.Bool.{Bool, true, false, cond}
 use mathlib.Core.List.{List, [], _∷_, _++_, map, append-nil}
 use Prim.Native.Nat.{ℕ, _+_, _<_, _≤_}
@@ -9,22 +9,22 @@ use lib.Dec.{ltb}
 use lib.ListN.{length, take, length-append}
 use lib.Seq.{take-append-le, take-length}
 use borrow.Author.Tests.{ltb-true, ltb-false}
-use Rattle.matrix.specs.Matrix.{entry, listed}
+use Rattle.matrix.specs.Matrix.{listed}
 use Rattle.matrix.specs.Array.{leastForm}
-use Rattle.matrix.specs.Operator.{operator, SameOperator, Orthogonal, Reduced, LeastExponent}
+use Rattle.matrix.specs.Operator.{SameOperator, Orthogonal, Reduced, LeastExponent}
 use Rattle.matrix.specs.Laws.Operator.{same-operator-sym, same-operator-trans, same-orthogonal, least-same, least-unique}
 use Rattle.matrix.specs.Laws.Array.{operatorOf, listed-same, length-listed, least-form, least-exponent}
 use Rattle.file.specs.declared.Answer.{Answer}
 use Rattle.file.specs.declared.Answer.the-variants.{Count, Refused}
-use Rattle.file.specs.File.{largestExponent, fileLength, fileOperator}
-use Rattle.file.specs.Laws.File.{exponent-back, matrix-back, orthogonal-short}
+use Rattle.file.specs.File.{largestExponent, fileLength}
+use Rattle.file.specs.Laws.File.{exponent-back, operator-back}
 use Rattle.letter.specs.declared.Gate.{Gate}
 use Rattle.letter.specs.declared.Letter.{Letter}
 use Rattle.letter.specs.declared.Letter.the-variants.{Is, Unknown}
 use Rattle.letter.specs.Gate.{letter, gateOf}
 use Rattle.letter.specs.Laws.Gate.{letter-of-gate}
 use Rattle.gate.specs.Product.{productOf}
-use Rattle.gate.specs.Reading.{largestList, Reading, gates, refusal, leastOf, readLetter, readFrom, productFile, reading, operatorAnswer, operatorBuffer}
+use Rattle.gate.specs.Reading.{largestList, Reading, gates, refusal, leastOf, readLetter, readFrom, reading, operatorAnswer, operatorBuffer}
 use Rattle.gate.specs.Promise.{ReadInto, Deep, EarnsNine, EarnsEight, ProductPromise}
 use Rattle.gate.specs.Laws.Product.{product-orthogonal}
 
@@ -138,18 +138,14 @@ not-above w s = elim (decLt largestExponent (leastOf w .exponent)) [
   | no h ↦ omega arith
 ]
 
-file-back : (w : List Gate) → leastOf w .exponent ≤ largestExponent → fileOperator (productFile w) ≡ operatorOf (leastOf w)
-file-back w h =
-    ap₂ (λ k m. operator k (entry m)) (exponent-back (leastOf w .exponent) (leastOf w .matrix))
-    (matrix-back (leastOf w .exponent) (leastOf w .matrix) (orthogonal-short (leastOf w .exponent) (leastOf w .matrix) h (least-of-orthogonal w)) (least-of-long w))
-
 read-into : (bs : List ℕ) (w : List Gate) → reading bs ≡ gates w → ReadInto bs w
 read-into bs w e =
     let (l, s) = subst (Outcome bs) e (list-outcome bs) in
     record {
       letters = l;
-      multiplies = record { same = subst (SameOperator (productOf w)) (sym (file-back w (not-above w s))) (least-of-same w) };
+      multiplies = record { same = subst (SameOperator (productOf w)) (sym (operator-back (leastOf w .exponent) (leastOf w .matrix) (not-above w s) (least-of-orthogonal w) (least-of-long w))) (least-of-same w) };
       least = subst (LeastExponent (productOf w)) (sym (exponent-back (leastOf w .exponent) (leastOf w .matrix))) (least-of-exponent w);
+      count = exponent-back (leastOf w .exponent) (leastOf w .matrix);
     }
 
 -- an answer above 6 is that of the reading

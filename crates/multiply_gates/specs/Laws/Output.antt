@@ -6,9 +6,9 @@ use native.Mathlib.Omega.{arith}
 use lib.ListN.{length}
 use borrow.Author.Tests.{le-ltb}
 use Rattle.file.specs.declared.Answer.the-variants.{Count, Refused}
-use Rattle.file.specs.File.{fileLength, fileOf, written, Appended}
+use Rattle.file.specs.File.{fileLength, written, Appended}
 use Rattle.file.specs.Laws.File.{length-file}
-use Rattle.gate.specs.Reading.{Reading, gates, refusal, leastOf, operatorAnswer, operatorBuffer}
+use Rattle.gate.specs.Reading.{Reading, gates, refusal, leastOf, productFile, operatorAnswer, operatorBuffer}
 use Rattle.text.specs.Text.{refusedLine}
 use Rattle.text.specs.Laws.Text.{front}
 use Rattle.multiply_gates.specs.Output.{outputOf}
@@ -18,7 +18,7 @@ module _ (old new : List ℕ) (room : fileLength ≤ length old) where
   pub filed : (r : Reading) (k : ℕ) → Count k ≡ operatorAnswer (length old) r → new ≡ operatorBuffer old r → (length (outputOf r) ≡ fileLength) × Appended (outputOf r) 0 old new fileLength
   filed (refusal n) k e f = let x : _≡_ {A = ℕ} 0 1 = cc in absurd (omega arith)
   filed (gates w) k e f =
-      let b = fileOf (leastOf w .exponent) (leastOf w .matrix) in
+      let b = productFile w in
       let n = length-file (leastOf w .exponent) (leastOf w .matrix) in
       let g : new ≡ written old b = f ∙ rw (le-ltb (length old) fileLength room) in
       (n, subst (λ x. Appended b 0 old x fileLength) (sym g) (subst (λ x. Appended b 0 old (written old b) x) n (front old b)))

@@ -9,10 +9,10 @@ use lib.ListN.{length}
 use borrow.Author.Tests.{eq-eqb, ne-eqb, le-ltb}
 use Rattle.file.specs.declared.Answer.{Answer}
 use Rattle.file.specs.declared.Answer.the-variants.{Count, Refused}
-use Rattle.file.specs.File.{fileLength, fileOf, written, Appended}
+use Rattle.file.specs.File.{fileLength, written, Appended}
 use Rattle.file.specs.Laws.File.{length-file}
 use Rattle.sheet_bytes.specs.Sheet.{sheetRefusal, sheetLeast}
-use Rattle.sheet.specs.Promise.{operatorAnswer, operatorBuffer, OperatorPromise}
+use Rattle.sheet.specs.Promise.{sheetFile, operatorAnswer, operatorBuffer, OperatorPromise}
 use Rattle.text.specs.Text.{refusedLine}
 use Rattle.text.specs.Laws.Text.{front}
 use Rattle.multiply_sheet.specs.Output.{outputOf}
@@ -23,7 +23,7 @@ module _ (s old new : List ℕ) (a : Answer) (room : fileLength ≤ length old) 
     unfolding operatorAnswer
     answer-is = p .answer ∙ rw (eq-eqb (sheetRefusal s) 0 z, le-ltb (length old) fileLength room)
 
-    output-is : outputOf s ≡ fileOf (sheetLeast s .exponent) (sheetLeast s .matrix)
+    output-is : outputOf s ≡ sheetFile s
     unfolding outputOf
     output-is = rw (eq-eqb (sheetRefusal s) 0 z)
 

@@ -13,11 +13,11 @@ use Rattle.matrix.specs.Operator.{operator, Proper}
 use Rattle.matrix.specs.Laws.Test.{T-true, same-list-refl, and-left, and-right}
 use Rattle.matrix.specs.Laws.Range.{every-complete}
 use Rattle.matrix.specs.Laws.Operator.{same-operator-of, same-operator-sym, same-operator-trans, same-orthogonal, same-proper}
-use Rattle.matrix.specs.Laws.Array.{listed-same, length-listed, least-form}
+use Rattle.matrix.specs.Laws.Array.{listed-same, length-listed}
 use Rattle.clifford.specs.Columns.{columnsMatrix, columnBytes, isColumnByte, areColumnBytes, arePermutation, isEven, Clifford}
 use Rattle.clifford.specs.Laws.Columns.{matrix-permutation, matrix-columns, permutation-sound, permutation-complete, columns-orthogonal, orthogonal-permutation, orthogonal-clifford, clifford-orthogonal}
 use Rattle.sign.specs.Laws.Sign.{even-proper, proper-even}
-use Rattle.file.specs.File.{fileExponent, fileMatrix, fileOf, fileOperator}
+use Rattle.file.specs.File.{fileExponent, fileMatrix, fileOperator}
 use Rattle.file.specs.Laws.File.{length-file, exponent-back, matrix-back, length-file-matrix, orthogonal-short}
 use Rattle.reduction.specs.Reduction.{count, taken, remaining, sheet, sheetOf, sheetColumns, sheetOperator}
 use Rattle.reduction.specs.Laws.NormalForm.{cutting, same-sheet}
@@ -28,7 +28,8 @@ use Rattle.acceptance.specs.Laws.Acceptance as file
 use Rattle.acceptance.specs.Laws.Cutting.{even-is-proper}
 use Rattle.operator.specs.Laws.Promise.{file-cutting, count-small, columns-bytes, sheet-length, sheet-numbers, sheet-columns, sheet-multiplies}
 use Rattle.sheet_bytes.specs.Sheet.{shortest, longest, isNumber, areNumbers, isClifford, sheetRefusal, sheetLeast}
-use Rattle.sheet.specs.Laws.Sheet.{Accepted, sheet-orthogonal, sheet-same-least, sheet-exact, sheet-small, least-orthogonal-sheet}
+use Rattle.sheet.specs.Promise.{sheetFile}
+use Rattle.sheet.specs.Laws.Sheet.{Accepted, sheet-orthogonal, sheet-same-least, sheet-exact, sheet-small, least-orthogonal-sheet, sheet-long, sheet-file}
 
 -- ---- six column bytes
 
@@ -80,17 +81,10 @@ module _ (b : List ℕ) (z : fileRefusal b ≡ 0) where
 -- ---- a sheet's file is cut into the sheet
 
 module _ (s : List ℕ) (a : Accepted s) where
-  abbrev pub sheetFile : List ℕ
-  sheetFile = fileOf (sheetLeast s .exponent) (sheetLeast s .matrix)
+  matrix-read : fileMatrix (sheetFile s) ≡ sheetLeast s .matrix
+  matrix-read = matrix-back (sheetLeast s .exponent) (sheetLeast s .matrix) (orthogonal-short (sheetLeast s .exponent) (sheetLeast s .matrix) (sheet-small s a) (least-orthogonal-sheet s a)) (sheet-long s a)
 
-  least-long : length (sheetLeast s .matrix) ≡ 36
-  unfolding sheetLeast
-  least-long = least-form (sheetOperator s .exponent) (listed (sheetOperator s .matrix)) .long (length-listed (sheetOperator s .matrix))
-
-  matrix-read : fileMatrix sheetFile ≡ sheetLeast s .matrix
-  matrix-read = matrix-back (sheetLeast s .exponent) (sheetLeast s .matrix) (orthogonal-short (sheetLeast s .exponent) (sheetLeast s .matrix) (sheet-small s a) (least-orthogonal-sheet s a)) least-long
-
-  exponent-read : fileExponent sheetFile ≡ sheetLeast s .exponent
+  exponent-read : fileExponent (sheetFile s) ≡ sheetLeast s .exponent
   exponent-read = exponent-back (sheetLeast s .exponent) (sheetLeast s .matrix)
 
   -- the sign of the sheet's Clifford is that of its operator
@@ -106,18 +100,16 @@ module _ (s : List ℕ) (a : Accepted s) where
       let even : Proper (operator 0 (columnsMatrix (columnBytes (entry C)))) = subst (λ x. Proper (operator 0 (columnsMatrix x))) (sym columns) (even-proper (sheetColumns s) (permutation-sound (sheetColumns s) (a .form .permutation)) (a .form .even)) in
       same-proper (same-operator-sym (listed-same A)) (k .proper (same-proper (same-operator-of (operator 0 (columnsMatrix (columnBytes (entry C)))) (operator 0 (entry C)) refl (matrix-columns (entry C) (k .orthogonal))) even))
 
-  pub sheet-file-accepted : fileRefusal sheetFile ≡ 0
+  pub sheet-file-accepted : fileRefusal (sheetFile s) ≡ 0
   sheet-file-accepted =
-      file.in-form sheetFile (length-file (sheetLeast s .exponent) (sheetLeast s .matrix)) (rw exponent-read (sheet-small s a))
-      ∙ file.entries-complete (fileOperator sheetFile)
-      (subst (λ x. file.Entries (operator x (entry (fileMatrix sheetFile)))) (sym exponent-read)
-      (subst (λ x. file.Entries (operator (sheetLeast s .exponent) (entry x))) (sym matrix-read)
-      (record { orthogonal = least-orthogonal-sheet s a; proper = same-proper (same-operator-sym (sheet-same-least s a)) sheet-proper })))
+      file.in-form (sheetFile s) (length-file (sheetLeast s .exponent) (sheetLeast s .matrix)) (rw exponent-read (sheet-small s a))
+      ∙ file.entries-complete (fileOperator (sheetFile s))
+      (subst file.Entries (sym (sheet-file s a)) (record { orthogonal = least-orthogonal-sheet s a; proper = same-proper (same-operator-sym (sheet-same-least s a)) sheet-proper }))
 
-  pub sheet-file-cut : fileSheet sheetFile ≡ s
+  pub sheet-file-cut : fileSheet (sheetFile s) ≡ s
   sheet-file-cut =
       let A = sheetOperator s in
       ap₂ sheet exponent-read matrix-read
-      ∙ same-sheet (sheetLeast s .exponent) (A .exponent) (sheetLeast s .matrix) (listed (A .matrix)) least-long (length-listed (A .matrix)) (least-orthogonal-sheet s a) (sheet-orthogonal s (a .form))
+      ∙ same-sheet (sheetLeast s .exponent) (A .exponent) (sheetLeast s .matrix) (listed (A .matrix)) (sheet-long s a) (length-listed (A .matrix)) (least-orthogonal-sheet s a) (sheet-orthogonal s (a .form))
       (same-operator-trans (sheet-same-least s a) (listed-same A))
       ∙ a .again

@@ -1,27 +1,30 @@
 -- The ways out of the call.
-use mathlib.Core.Path.{_≡_, sym, ap, ap₂, _∙_}
+use mathlib.Core.Path.{_≡_, sym, ap, ap₂, _∙_, subst}
 use mathlib.Core.Logic.{_≢_}
 use mathlib.Core.List.{List}
 use Prim.Native.Nat.{ℕ, _≤_, _<_}
 use lib.ListN.{length}
 use borrow.Author.Tests.{eq-eqb, ne-eqb, lt-ltb, le-ltb}
+use Rattle.matrix.specs.Operator.{SameOperator}
 use Rattle.file.specs.declared.Answer.{Answer}
 use Rattle.file.specs.declared.Answer.the-variants.{Count, Refused}
 use Rattle.file.specs.File.{fileLength, fileOf, written, Short}
-use Rattle.file.specs.Laws.File.{orthogonal-short}
+use Rattle.file.specs.Laws.File.{exponent-back, orthogonal-short}
 use Rattle.file.specs.declared.Read.{Read}
+use Rattle.reduction.specs.Reduction.{sheetOperator}
 use Rattle.sheet_bytes.specs.Sheet.{sheetRefusal, sheetLeast}
 use Rattle.sheet.specs.Promise.{SheetRead, operatorAnswer, operatorBuffer, OperatorPromise}
-use Rattle.sheet.specs.Laws.Sheet.{accepted, sheet-same-least, sheet-least, sheet-exact, sheet-small, least-orthogonal-sheet}
+use Rattle.sheet.specs.Laws.Sheet.{accepted, sheet-same-least, sheet-least, sheet-exact, sheet-small, least-orthogonal-sheet, sheet-file}
 
 module _ (s old : List ℕ) (r : Read) (c : SheetRead s r) where
   promised : {new : List ℕ} {a : Answer} → a ≡ operatorAnswer s (length old) → new ≡ operatorBuffer s old → OperatorPromise s old new a
   promised p q = record {
     answer = p;
     buffer = q;
-    multiplies = λ z. sheet-same-least s (accepted s z);
+    multiplies = λ z. subst (λ A. SameOperator A (sheetOperator s)) (sym (sheet-file s (accepted s z))) (sheet-same-least s (accepted s z));
     least = λ z. sheet-least s (accepted s z);
     exact = λ z. sheet-exact s (accepted s z);
+    count = exponent-back (sheetLeast s .exponent) (sheetLeast s .matrix);
   }
 
   no-refusal : r .refusal ≡ 0 → sheetRefusal s ≡ 0

@@ -15,13 +15,16 @@ use Rattle.matrix.specs.Operator.{operator, SameOperator, Orthogonal, LeastExpo
 use Rattle.matrix.specs.Laws.Test.{and-left, and-right, same-list}
 use Rattle.matrix.specs.Laws.Range.{every-sound}
 use Rattle.matrix.specs.Laws.Operator.{same-operator-sym, same-operator-trans, times-orthogonal, same-orthogonal, least-same}
-use Rattle.matrix.specs.Laws.Array.{operatorOf, listed-same, least-form, least-orthogonal, least-exponent}
+use Rattle.matrix.specs.Laws.Array.{operatorOf, listed-same, length-listed, least-form, least-orthogonal, least-exponent}
 use Rattle.clifford.specs.Columns.{columnsMatrix, areColumnBytes, arePermutation, isEven}
 use Rattle.clifford.specs.Laws.Columns.{permutation-sound, columns-orthogonal}
 use Rattle.residue.specs.Laws.Generator.{generator-orthogonal}
+use Rattle.file.specs.File.{fileOperator}
+use Rattle.file.specs.Laws.File.{operator-back}
 use Rattle.reduction.specs.Reduction.{sheetOf, normalForm, sheetNumbers, sheetColumns, sheetOperator}
 use Rattle.reduction.specs.Laws.NormalForm.{Numbers, length-sheet}
 use Rattle.sheet_bytes.specs.Sheet.{shortest, longest, isNumber, areNumbers, isClifford, bytesRefusal, sheetRefusal, sheetLeast}
+use Rattle.sheet.specs.Promise.{sheetFile}
 
 -- bytes that pass the test are generator numbers
 pub numbers-sound : (s : List ℕ) (t : ℕ) → t ≤ length s → every t (λ n. isNumber (getD s n 0)) ≡ true → (i : ℕ) → i < t → (1 ≤ getD s i 0) × (getD s i 0 ≤ 15)
@@ -143,3 +146,10 @@ module _ (s : List ℕ) (a : Accepted s) where
 
   pub sheet-small : sheetLeast s .exponent ≤ 28
   sheet-small = let e = sheet-exact in let h = a .form .short in omega arith
+
+  pub sheet-long : length (sheetLeast s .matrix) ≡ 36
+  unfolding sheetLeast
+  sheet-long = least-form (sheetOperator s .exponent) (listed (sheetOperator s .matrix)) .long (length-listed (sheetOperator s .matrix))
+
+  pub sheet-file : fileOperator (sheetFile s) ≡ operatorOf (sheetLeast s)
+  sheet-file = operator-back (sheetLeast s .exponent) (sheetLeast s .matrix) sheet-small least-orthogonal-sheet sheet-long
