@@ -1,5 +1,5 @@
 // The calls for programs in other languages (include/dimfrets.h). The contracts are those of the calls, through
-// the words of `answer_word`.
+// the words of `answer_word`; wrong, and refused there: the count in the bits of a length, a value beside a refusal.
 
 ghost use Rattle.gate.specs.Promise.{ProductPromise};
 ghost use Rattle.operator.specs.Promise.{SheetPromise, GatesPromise};
@@ -44,7 +44,7 @@ pub extern "C" fn dimfrets_sheet_to_operator(input: &[u8], output: &mut [u8]) ->
 }
 
 // The number of CS states to order.
-// Wrong, and refused: the count and the spoilage exchanged.
+// Wrong, and refused: the count and the spoilage exchanged; the figure in the bits of a length.
 #[no_mangle]
 pub extern "C" fn dimfrets_states_to_order(t: u64, p: u64) -> u64
     ensures { λ r. ⌜ WordOf (answerParts (orderAnswer t p)) r ⌝ }

@@ -11,6 +11,7 @@ use Rattle.reduction.specs.Reduction.{sheetOf}
 use Rattle.letter.specs.declared.Gate.{Gate}
 use Rattle.letter.specs.declared.Gate.the-variants.{H1, Cz, Cs}
 use Rattle.gate.specs.Product.{productOf}
+use Rattle.gate.specs.Reading.{productFile}
 use Rattle.acceptance.specs.Acceptance.{fileRefusal}
 use Rattle.operator.specs.Promise.{fileSheet}
 use Rattle.sheet_bytes.specs.Sheet.{sheetRefusal}
@@ -24,19 +25,22 @@ pub data Trial : Type 0 where
   sheetRefused : List ℕ → ℕ → Trial
   -- this list multiplies to an operator with this sheet
   multiplies : List Gate → List ℕ → Trial
+  -- this list's product is written as the file of this exponent and matrix
+  equals : List Gate → ℕ → Matrix → Trial
 
 abbrev pub passes : Trial → Bool
 passes (cuts k M s) = eqb (fileRefusal (fileOf k (listed M))) 0 && sameList (fileSheet (fileOf k (listed M))) s
 passes (fileRefused k M n) = eqb (fileRefusal (fileOf k (listed M))) n
 passes (sheetRefused s n) = eqb (sheetRefusal s) n
 passes (multiplies w s) = sameList (sheetOf (productOf w)) s
+passes (equals w k M) = sameList (productFile w) (fileOf k (listed M))
 
 abbrev pub allPass : List Trial → Bool
 allPass [] = true
 allPass (t ∷ ts) = passes t && allPass ts
 
 -- the identity; twice the identity, k 2; the two sheets; the identity with −1 in row 1; `C`; `CC` and `Z`; `HH`, which is the identity; `ZZ`,
--- which is its negative; eight `C`; `CHC`
+-- which is its negative; eight `C`, which are the identity, count 0; `CHC`
 unfoldable pub trials : List Trial
 trials =
     cuts 0 δ (1 ∷ 2 ∷ 3 ∷ 4 ∷ 5 ∷ 6 ∷ []) ∷
@@ -47,8 +51,8 @@ trials =
     multiplies (Cs ∷ []) (3 ∷ 1 ∷ 2 ∷ 3 ∷ 4 ∷ 5 ∷ 6 ∷ []) ∷
     multiplies (Cs ∷ Cs ∷ []) (2 ∷ 129 ∷ 6 ∷ 5 ∷ 132 ∷ 131 ∷ []) ∷
     multiplies (Cz ∷ []) (2 ∷ 129 ∷ 6 ∷ 5 ∷ 132 ∷ 131 ∷ []) ∷
-    multiplies (H1 ∷ H1 ∷ []) (1 ∷ 2 ∷ 3 ∷ 4 ∷ 5 ∷ 6 ∷ []) ∷
-    multiplies (Cz ∷ Cz ∷ []) (129 ∷ 130 ∷ 131 ∷ 132 ∷ 133 ∷ 134 ∷ []) ∷
-    multiplies (Cs ∷ Cs ∷ Cs ∷ Cs ∷ Cs ∷ Cs ∷ Cs ∷ Cs ∷ []) (1 ∷ 2 ∷ 3 ∷ 4 ∷ 5 ∷ 6 ∷ []) ∷
+    equals (H1 ∷ H1 ∷ []) 0 δ ∷
+    equals (Cz ∷ Cz ∷ []) 0 (λ r c. negsuc 0 *ℤ δ r c) ∷
+    equals (Cs ∷ Cs ∷ Cs ∷ Cs ∷ Cs ∷ Cs ∷ Cs ∷ Cs ∷ []) 0 δ ∷
     multiplies (Cs ∷ H1 ∷ Cs ∷ []) (3 ∷ 13 ∷ 3 ∷ 130 ∷ 1 ∷ 4 ∷ 5 ∷ 6 ∷ []) ∷
     []
