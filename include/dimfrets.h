@@ -110,7 +110,8 @@ uint64_t dimfrets_sheet_to_operator(const uint8_t *in, size_t in_len,
 
 /*
  * The number of CS states to order for the count t and a spoilage of p
- * thousandths: t plus t * p / 1000 rounded up, at most 56.
+ * thousandths: t plus t * p / 1000, rounded to the nearest whole state, an exact
+ * half to the even one; at most 56.
  * Reads and writes no bytes. Refusal: 14.
  */
 uint64_t dimfrets_states_to_order(uint64_t t, uint64_t p);

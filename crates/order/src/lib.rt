@@ -1,14 +1,33 @@
-// States to order. The contract cites specs/Order.antt.
+// States to order. The contracts cite specs/Order.antt.
 
 use file::Answer;
 ghost use mathlib.Core.Path.{_≡_};
-ghost use Rattle.order.specs.Order.{orderAnswer};
+ghost use Rattle.order.specs.Order.{nearest, orderAnswer};
 
 // The largest spoilage, in thousandths.
 pub const LARGEST_SPOILAGE: u64 = 1000;
 
+// A half, in thousandths.
+const HALF: u64 = 500;
+
+// So many thousandths as whole states: the nearest, and of an exact half the even one.
+// Wrong, and refused: rounded up; an exact half rounded up; an exact half rounded down; a half over an odd number dropped.
+fn whole_states(thousandths: u64) -> u64
+    ensures { λ r. ⌜ r ≡ nearest thousandths ⌝ }
+{
+    let whole = thousandths / 1000;
+    let rest = thousandths % 1000;
+    if HALF < rest {
+        return whole + 1;
+    }
+    if rest < HALF {
+        return whole;
+    }
+    whole + whole % 2
+}
+
 // How many CS states to order for a circuit of t CS gates, where p thousandths of them spoil.
-// Wrong, and refused: the spoilage rounded down; a spoilage of 1000 turned away.
+// Wrong, and refused: a spoilage of 1000 turned away.
 pub fn states_to_order(t: u64, p: u64) -> Answer
     ensures { λ r. ⌜ r ≡ orderAnswer t p ⌝ }
 {
@@ -18,6 +37,6 @@ pub fn states_to_order(t: u64, p: u64) -> Answer
     if LARGEST_SPOILAGE < p {
         return Answer::Refused(14);
     }
-    let states = t + (t * p + 999) / 1000;
+    let states = t + whole_states(t * p);
     Answer::Count(states as u8)
 }

@@ -77,7 +77,10 @@ pub fn sheet_case(sheet: &[u8]) {
 }
 
 // A count and a spoilage, by the states to order.
-pub fn order_case(name: &[u8], t: u64, p: u64) {
-    show(name);
+pub fn order_case(t: u64, p: u64) {
+    show(b"t ");
+    io::print_decimal(1, t);
+    show(b", p ");
+    io::print_decimal(1, p);
     end_line(b": order ", order::states_to_order(t, p));
 }

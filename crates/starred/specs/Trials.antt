@@ -1,11 +1,14 @@
--- Document 01's trial cuts that are marked to be proved of the definitions: a table of cases, and the test that each passes.
-use mathlib.Core.Bool.{Bool, true, _&&_}
+-- Document 01's trial cuts that are marked to be proved of the definitions, and the orders of document 02, P1: a table of cases, and the test
+-- that each passes.
+use mathlib.Core.Bool.{Bool, true, false, _&&_}
 use mathlib.Core.List.{List, [], _∷_}
 use Prim.Native.Nat.{ℕ}
 use lib.Dec.{eqb}
 use lib.IntN.{pos, negsuc, _*ℤ_}
 use Rattle.matrix.specs.List.{sameList}
 use Rattle.matrix.specs.Matrix.{Matrix, δ, replaced, listed}
+use Rattle.file.specs.declared.Answer.{Answer}
+use Rattle.file.specs.declared.Answer.the-variants.{Count, Refused}
 use Rattle.file.specs.File.{fileOf}
 use Rattle.reduction.specs.Reduction.{sheetOf}
 use Rattle.letter.specs.declared.Gate.{Gate}
@@ -15,6 +18,7 @@ use Rattle.gate.specs.Reading.{productFile}
 use Rattle.acceptance.specs.Acceptance.{fileRefusal}
 use Rattle.operator.specs.Promise.{fileSheet}
 use Rattle.sheet_bytes.specs.Sheet.{sheetRefusal}
+use Rattle.order.specs.Order.{orderAnswer}
 
 pub data Trial : Type 0 where
   -- the file of this exponent and matrix is accepted and has this sheet
@@ -27,6 +31,13 @@ pub data Trial : Type 0 where
   multiplies : List Gate → List ℕ → Trial
   -- this list's product is written as the file of this exponent and matrix
   equals : List Gate → ℕ → Matrix → Trial
+  -- this count and this spoilage order so many states
+  orders : ℕ → ℕ → ℕ → Trial
+
+-- whether an answer is this count, or figure
+abbrev counts : Answer → ℕ → Bool
+counts (Count m) n = eqb m n
+counts (Refused m) n = false
 
 abbrev pub passes : Trial → Bool
 passes (cuts k M s) = eqb (fileRefusal (fileOf k (listed M))) 0 && sameList (fileSheet (fileOf k (listed M))) s
@@ -34,13 +45,14 @@ passes (fileRefused k M n) = eqb (fileRefusal (fileOf k (listed M))) n
 passes (sheetRefused s n) = eqb (sheetRefusal s) n
 passes (multiplies w s) = sameList (sheetOf (productOf w)) s
 passes (equals w k M) = sameList (productFile w) (fileOf k (listed M))
+passes (orders t p n) = counts (orderAnswer t p) n
 
 abbrev pub allPass : List Trial → Bool
 allPass [] = true
 allPass (t ∷ ts) = passes t && allPass ts
 
 -- the identity; twice the identity, k 2; the two sheets; the identity with −1 in row 1; `C`; `CC` and `Z`; `HH`, which is the identity; `ZZ`,
--- which is its negative; eight `C`, which are the identity, count 0; `CHC`
+-- which is its negative; eight `C`, which are the identity, count 0; `CHC`; the orders
 unfoldable pub trials : List Trial
 trials =
     cuts 0 δ (1 ∷ 2 ∷ 3 ∷ 4 ∷ 5 ∷ 6 ∷ []) ∷
@@ -55,4 +67,11 @@ trials =
     equals (Cz ∷ Cz ∷ []) 0 (λ r c. negsuc 0 *ℤ δ r c) ∷
     equals (Cs ∷ Cs ∷ Cs ∷ Cs ∷ Cs ∷ Cs ∷ Cs ∷ Cs ∷ []) 0 δ ∷
     multiplies (Cs ∷ H1 ∷ Cs ∷ []) (3 ∷ 13 ∷ 3 ∷ 130 ∷ 1 ∷ 4 ∷ 5 ∷ 6 ∷ []) ∷
+    orders 10 50 10 ∷
+    orders 10 150 12 ∷
+    orders 28 50 29 ∷
+    orders 0 1000 0 ∷
+    orders 28 1000 56 ∷
+    orders 1 500 1 ∷
+    orders 3 500 5 ∷
     []

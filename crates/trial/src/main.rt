@@ -1,5 +1,5 @@
-// Document 01's trial cuts, run through the five calls: a line for each case, with the answer. I is the identity, and the six rows are those of
-// the example of `cut`.
+// Document 01's trial cuts, and the orders of document 02, P1, run through the five calls: a line for each case, with the answer. I is the
+// identity, and the six rows are those of the example of `cut`.
 
 // An entry of −1, in the 16 bits of an operator file.
 const MINUS_ONE: u16 = 65535;
@@ -77,6 +77,16 @@ fn sheets() {
     show::sheet_case(&[3, 3, 1, 2, 3, 4, 5, 6]);
 }
 
+fn orders() {
+    show::order_case(10, 50);
+    show::order_case(10, 150);
+    show::order_case(28, 50);
+    show::order_case(0, 1000);
+    show::order_case(28, 1000);
+    show::order_case(1, 500);
+    show::order_case(3, 500);
+}
+
 fn main() {
     operators();
     limits();
@@ -85,6 +95,5 @@ fn main() {
     names();
     listed();
     sheets();
-    show::order_case(b"t 28, p 50", 28, 50);
-    show::order_case(b"t 0, p 1000", 0, 1000);
+    orders();
 }

@@ -30,7 +30,7 @@ struct Case<'a> {
 impl Judge {
     pub fn new() -> Judge {
         Judge {
-            tally: Tally::default(),
+            tally: Tally::new(),
             random: Random::new(7),
         }
     }

@@ -1,30 +1,36 @@
-//! How often each call ran, each refusal came and each count was seen.
+//! How often each call ran, each refusal came and each count, or figure of states, was seen.
 
 use crate::call::{Answer, Call, CALLS};
 
 const REFUSALS: usize = 14;
 const COUNTS: usize = 29;
+const FIGURES: usize = 57;
 const LEAST_INPUTS: u64 = 200_000;
 const LEAST_PER_REFUSAL: u64 = 1000;
 
 /// The tally of all calls.
-#[derive(Default)]
 pub struct Tally {
     inputs: [u64; CALLS.len()],
     refusals: [u64; REFUSALS],
-    counts: [[u64; COUNTS]; CALLS.len()],
+    counts: [Vec<u64>; CALLS.len()],
 }
 
 impl Tally {
+    pub fn new() -> Tally {
+        Tally {
+            inputs: [0; CALLS.len()],
+            refusals: [0; REFUSALS],
+            counts: CALLS.map(|call| vec![0; counts(call)]),
+        }
+    }
+
     /// Counts one answer.
     pub fn add(&mut self, call: Call, answer: Answer) {
         self.inputs[call as usize] += 1;
         match answer {
             Answer::Refused(number) => self.refusals[usize::from(number) - 1] += 1,
-            Answer::Count(count, _) if call != Call::StatesToOrder => {
-                self.counts[call as usize][count as usize] += 1;
-            }
-            _ => {}
+            Answer::Count(count, _) => self.counts[call as usize][count as usize] += 1,
+            Answer::Unknown => {}
         }
     }
 
@@ -35,7 +41,7 @@ impl Tally {
         }
         println!("inputs in all: {}", self.inputs.iter().sum::<u64>());
         println!("refusals:{}", numbered(1, &self.refusals));
-        for call in counting_calls() {
+        for call in CALLS {
             println!(
                 "counts of {}:{}",
                 call.name(),
@@ -55,7 +61,7 @@ impl Tally {
                 gaps.push(format!("refusal {number}"));
             }
         }
-        gaps.extend(counting_calls().flat_map(|call| self.missing_counts(call)));
+        gaps.extend(CALLS.iter().flat_map(|&call| self.missing_counts(call)));
         gaps
     }
 
@@ -67,11 +73,12 @@ impl Tally {
     }
 }
 
-/// The calls whose answer is a count.
-fn counting_calls() -> impl Iterator<Item = Call> {
-    CALLS
-        .into_iter()
-        .filter(|&call| call != Call::StatesToOrder)
+/// How many counts, or figures, a call can answer.
+fn counts(call: Call) -> usize {
+    match call {
+        Call::StatesToOrder => FIGURES,
+        _ => COUNTS,
+    }
 }
 
 fn numbered(first: usize, times: &[u64]) -> String {

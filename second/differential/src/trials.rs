@@ -1,4 +1,5 @@
-//! The cases of document 01, "Trial cuts", and the example of `cut`, on both implementations.
+//! The cases of document 01, "Trial cuts", the example of `cut`, and the orders of document 02, P1, on
+//! both implementations.
 
 use plain::matrix::{scale, Matrix, IDENTITY};
 use plain::operator::{Operator, OPERATOR_BYTES};
@@ -19,6 +20,17 @@ const IDENTITY_SHEET: &[u8] = &[1, 2, 3, 4, 5, 6];
 const MINUS_IDENTITY_SHEET: &[u8] = &[129, 130, 131, 132, 133, 134];
 const CZ_SHEET: &[u8] = &[2, 129, 6, 5, 132, 131];
 const CHC_SHEET: &[u8] = &[3, 13, 3, 130, 1, 4, 5, 6];
+
+/// t, p and the states to order.
+const ORDERS: [(u64, u64, u64); 7] = [
+    (10, 50, 10),
+    (10, 150, 12),
+    (28, 50, 29),
+    (0, 1000, 0),
+    (28, 1000, 56),
+    (1, 500, 1),
+    (3, 500, 5),
+];
 
 /// Runs all trial cuts.
 pub fn run(judge: &mut Judge) {
@@ -86,7 +98,7 @@ fn refused_sheets(judge: &mut Judge) {
 }
 
 fn orders(judge: &mut Judge) {
-    for ((t, p), states) in [((28, 50), 30), ((0, 1000), 0)] {
+    for (t, p, states) in ORDERS {
         let answer = Answer::Count(states, 0);
         expect(judge, Call::StatesToOrder, &order(t, p), answer, &[]);
     }

@@ -31,7 +31,7 @@
 //! dimfrets::gates_to_operator(&list[..written.letters], &mut back)?;
 //! assert_eq!(back[..], file);
 //!
-//! assert_eq!(dimfrets::states_to_order(2, 50), Ok(3));
+//! assert_eq!(dimfrets::states_to_order(28, 50), Ok(29));
 //! # Ok::<(), dimfrets::Refusal>(())
 //! ```
 
@@ -98,7 +98,8 @@ pub fn sheet_to_operator(sheet: &[u8], out: &mut [u8]) -> Result<u8, Refusal> {
     count(run(dimfrets_sheet_to_operator, sheet, out))
 }
 
-/// The number of CS states to order for the count `t` and a spoilage of `p` thousandths.
+/// The number of CS states to order for the count `t` and a spoilage of `p` thousandths: `t` plus
+/// `t * p / 1000`, rounded to the nearest whole state, an exact half to the even one.
 ///
 /// Refuses with [`Refusal::OrderOutOfRange`].
 pub fn states_to_order(t: u64, p: u64) -> Result<u8, Refusal> {

@@ -1,5 +1,6 @@
-//! The CS cutter of document 01 in plain Rust: operators, sheets and gate lists, and the states
-//! to order. Every definition, number and order of refusals is that of document 01.
+//! The CS cutter in plain Rust: operators, sheets and gate lists, and the states to order. Every
+//! definition, number and order of refusals is that of document 01, or of document 02 where that is
+//! later.
 //!
 //! A refusal is answered by its number (see [`refusal`]); it leaves every byte of the output as it
 //! was. On success the bytes past the output keep theirs too.
@@ -13,6 +14,8 @@ pub mod operator;
 pub mod refusal;
 pub mod sheet;
 pub mod words;
+
+use std::cmp::Ordering;
 
 use gate::{LETTERS_PER_COUNT, MAX_LETTERS};
 use operator::{Operator, MAX_EXPONENT, OPERATOR_BYTES};
@@ -63,12 +66,26 @@ pub fn sheet_to_operator(sheet: &[u8], out: &mut [u8]) -> Result<u8, u8> {
     write_operator(&operator, out)
 }
 
-/// The number of CS states to order for the count `t` and a spoilage of `p` thousandths.
+/// The number of CS states to order for the count `t` and a spoilage of `p` thousandths, which is
+/// rounded to the nearest whole state, an exact half to the even one.
 pub fn states_to_order(t: u64, p: u64) -> Result<u64, u8> {
     if t > u64::from(MAX_EXPONENT) || p > MAX_SPOILAGE {
         return Err(refusal::ORDER_OUT_OF_RANGE);
     }
-    Ok(t + (t * p).div_ceil(1000))
+    Ok(t + nearest(t * p))
+}
+
+/// So many thousandths as whole states: of the two around them the nearer one, and of two that are
+/// equally near the even one.
+fn nearest(thousandths: u64) -> u64 {
+    let below = thousandths / 1000;
+    let above = below + 1;
+    let distance = |states: u64| (1000 * states).abs_diff(thousandths);
+    match distance(below).cmp(&distance(above)) {
+        Ordering::Less => below,
+        Ordering::Equal if below % 2 == 0 => below,
+        Ordering::Equal | Ordering::Greater => above,
+    }
 }
 
 /// Writes a least-exponent operator; its exponent is the count, for a cut lowers it by one.

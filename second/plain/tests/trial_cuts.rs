@@ -1,4 +1,5 @@
-//! The cases of document 01, "Trial cuts", and the example of `cut`, in both directions.
+//! The cases of document 01, "Trial cuts", the example of `cut`, in both directions, and the orders
+//! of document 02, P1.
 
 use plain::matrix::{scale, Matrix, IDENTITY};
 use plain::operator::{Operator, OPERATOR_BYTES};
@@ -181,10 +182,15 @@ fn short_buffers_come_last() {
 
 #[test]
 fn states() {
-    assert_eq!(states_to_order(28, 50), Ok(30));
+    assert_eq!(states_to_order(10, 50), Ok(10));
+    assert_eq!(states_to_order(10, 150), Ok(12));
+    assert_eq!(states_to_order(28, 50), Ok(29));
     assert_eq!(states_to_order(0, 1000), Ok(0));
     assert_eq!(states_to_order(28, 1000), Ok(56));
-    assert_eq!(states_to_order(1, 1), Ok(2));
+    assert_eq!(states_to_order(1, 500), Ok(1));
+    assert_eq!(states_to_order(3, 500), Ok(5));
+    assert_eq!(states_to_order(1, 499), Ok(1));
+    assert_eq!(states_to_order(1, 501), Ok(2));
     assert_eq!(states_to_order(28, 0), Ok(28));
     assert_eq!(states_to_order(29, 0), Err(14));
     assert_eq!(states_to_order(0, 1001), Err(14));

@@ -1,12 +1,13 @@
--- Within the limits nothing overflows: t × p is at most 28,000.
-use mathlib.Core.Path.{_≡_}
-use Prim.Native.Nat.{ℕ, _*_, _≤_, _<_}
+-- Within the limits nothing overflows: t × p is at most 28,000, and as whole states at most 28.
+use mathlib.Core.Path.{_≡_, ap, _∙_}
+use Prim.Native.Nat.{ℕ, _+_, _*_, _≤_, _<_}
 use native.Mathlib.Nat.{mul-le-mul}
 use native.Mathlib.Omega.{arith}
 use borrow.Author.Tests.{lt-ltb, le-ltb}
 use Rattle.file.specs.declared.Answer.the-variants.{Count, Refused}
 use Rattle.file.specs.File.{largestExponent}
-use Rattle.order.specs.Order.{largestSpoilage, roundedUp, figure, orderAnswer}
+use Rattle.order.specs.Order.{largestSpoilage, nearest, figure, orderAnswer}
+use Rattle.order.specs.Laws.Order.{nearest-is}
 use borrow.Author.Needs.{needs}
 use Rattle.order.proofs.states_to_order.Statement.{statement}
 use Rattle.order.proofs.states_to_order.Tie as tie
@@ -23,6 +24,9 @@ module _ (t p : ℕ) (l : t ≤ largestExponent) (h : p ≤ largestSpoilage) whe
   product : t * p ≤ 28000
   product = mul-le-mul l h
 
+  states : nearest (t * p) ≤ 28
+  states = let m = product in let n = nearest-is (t * p) .not-above in omega arith
+
   ordered : Count (figure t p) ≡ orderAnswer t p
   unfolding orderAnswer
   ordered = rw (le-ltb largestExponent t l, le-ltb largestSpoilage p h)
@@ -36,23 +40,23 @@ returns c = many _ _ (c .if1 .taken)
 returns-2 : tie.Need-returns-2
 returns-2 c = spoilt _ _ (c .before .if1 .left) (c .if2 .taken)
 
-mul-states : tie.Need-mul-states
-mul-states c = let m = product _ _ (c .before .if1 .left) (c .if2 .left) in omega arith
+mul-whole-states : tie.Need-mul-whole-states
+mul-whole-states c = let m = product _ _ (c .before .if1 .left) (c .if2 .left) in omega arith
 
+whole-states-requires : tie.Need-whole-states-requires
+whole-states-requires c κs = search needs
+
+-- the states that spoil are at most 28
 add-states : tie.Need-add-states
-add-states c = let m = product _ _ (c .before .if1 .left) (c .if2 .left) in omega arith
+add-states c = let m = states _ _ (c .before .before .if1 .left) (c .before .if2 .left) in let e = c .whole-states .ensures in omega arith
 
-add-states-2 : tie.Need-add-states-2
-add-states-2 c = let m = product _ _ (c .before .if1 .left) (c .if2 .left) in omega arith
-
-cast-t8 : tie.Need-cast-t8
-cast-t8 c = let m = product _ _ (c .before .if1 .left) (c .if2 .left) in omega arith
+cast-t7 : tie.Need-cast-t7
+cast-t7 c = let m = states _ _ (c .before .before .if1 .left) (c .before .if2 .left) in let e = c .whole-states .ensures in omega arith
 
 returns-3 : tie.Need-returns-3
-unfolding roundedUp
-returns-3 c = ordered _ _ (c .before .if1 .left) (c .if2 .left)
+returns-3 c = ap (λ n. Count (c .before .before .before .args .t + n)) (c .whole-states .ensures) ∙ ordered _ _ (c .before .before .if1 .left) (c .before .if2 .left)
 
 pub states-to-order-spec : {M : Type 1} → statement M
 states-to-order-spec =
     tie.close
-    (tie.spec cast-if1 returns returns-2 mul-states add-states add-states-2 cast-t8 returns-3)
+    (tie.spec cast-if1 returns returns-2 mul-whole-states whole-states-requires add-states cast-t7 returns-3)

@@ -15,8 +15,9 @@ use Rattle.gate.specs.Product.{image, productOf}
 use Rattle.gate.specs.Reading.{leastOf}
 use Rattle.acceptance.specs.Acceptance.{fileRefusal}
 use Rattle.sheet_bytes.specs.Sheet.{sheetRefusal}
+use Rattle.order.specs.Order.{nearest, orderAnswer}
 use Rattle.starred.specs.Trials.{trials, allPass}
 
 pub trials-pass : allPass trials ≡ true
-unfolding trials parity sum everyFrom firstFrom tabulate bits total δ replaced listed skip det pow lib.IntN.one isOrthogonal isWithin rowMask allEven leastForm fileMatrix fileOf isEven arePermutation columnByte table place generator fits firstFit generators remainder sheet normalForm image productOf leastOf fileRefusal sheetRefusal
+unfolding trials parity sum everyFrom firstFrom tabulate bits total δ replaced listed skip det pow lib.IntN.one isOrthogonal isWithin rowMask allEven leastForm fileMatrix fileOf isEven arePermutation columnByte table place generator fits firstFit generators remainder sheet normalForm image productOf leastOf fileRefusal sheetRefusal nearest orderAnswer
 trials-pass = refl
