@@ -7,7 +7,9 @@ ghost use Rattle.order.specs.Order.{nearest, orderAnswer};
 // The largest spoilage, in thousandths.
 pub const LARGEST_SPOILAGE: u64 = 1000;
 
-// A half, in thousandths.
+// A state, and half of one, in thousandths.
+const STATE: u64 = 1000;
+
 const HALF: u64 = 500;
 
 // So many thousandths as whole states: the nearest, and of an exact half the even one.
@@ -15,8 +17,8 @@ const HALF: u64 = 500;
 fn whole_states(thousandths: u64) -> u64
     ensures { λ r. ⌜ r ≡ nearest thousandths ⌝ }
 {
-    let whole = thousandths / 1000;
-    let rest = thousandths % 1000;
+    let whole = thousandths / STATE;
+    let rest = thousandths % STATE;
     if HALF < rest {
         return whole + 1;
     }
@@ -27,7 +29,7 @@ fn whole_states(thousandths: u64) -> u64
 }
 
 // How many CS states to order for a circuit of t CS gates, where p thousandths of them spoil.
-// Wrong, and refused: a spoilage of 1000 turned away.
+// Wrong, and refused: a spoilage of 1000 turned away; the states that spoil without those that are used.
 pub fn states_to_order(t: u64, p: u64) -> Answer
     ensures { λ r. ⌜ r ≡ orderAnswer t p ⌝ }
 {

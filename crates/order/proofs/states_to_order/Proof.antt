@@ -1,4 +1,4 @@
--- Within the limits nothing overflows: t × p is at most 28,000, and as whole states at most 28.
+-- Within the limits nothing overflows: t × p is at most 28,000, and the figure at most 56.
 use mathlib.Core.Path.{_≡_, ap, _∙_}
 use Prim.Native.Nat.{ℕ, _+_, _*_, _≤_, _<_}
 use native.Mathlib.Nat.{mul-le-mul}
@@ -6,8 +6,8 @@ use native.Mathlib.Omega.{arith}
 use borrow.Author.Tests.{lt-ltb, le-ltb}
 use Rattle.file.specs.declared.Answer.the-variants.{Count, Refused}
 use Rattle.file.specs.File.{largestExponent}
-use Rattle.order.specs.Order.{largestSpoilage, nearest, figure, orderAnswer}
-use Rattle.order.specs.Laws.Order.{nearest-is}
+use Rattle.order.specs.Order.{largestSpoilage, figure, orderAnswer}
+use Rattle.order.specs.Laws.Order.{figure-le}
 use borrow.Author.Needs.{needs}
 use Rattle.order.proofs.states_to_order.Statement.{statement}
 use Rattle.order.proofs.states_to_order.Tie as tie
@@ -24,8 +24,8 @@ module _ (t p : ℕ) (l : t ≤ largestExponent) (h : p ≤ largestSpoilage) whe
   product : t * p ≤ 28000
   product = mul-le-mul l h
 
-  states : nearest (t * p) ≤ 28
-  states = let m = product in let n = nearest-is (t * p) .not-above in omega arith
+  most : figure t p ≤ 56
+  most = let m = figure-le t p h in omega arith
 
   ordered : Count (figure t p) ≡ orderAnswer t p
   unfolding orderAnswer
@@ -46,12 +46,11 @@ mul-whole-states c = let m = product _ _ (c .before .if1 .left) (c .if2 .left) i
 whole-states-requires : tie.Need-whole-states-requires
 whole-states-requires c κs = search needs
 
--- the states that spoil are at most 28
 add-states : tie.Need-add-states
-add-states c = let m = states _ _ (c .before .before .if1 .left) (c .before .if2 .left) in let e = c .whole-states .ensures in omega arith
+add-states c = let m = most _ _ (c .before .before .if1 .left) (c .before .if2 .left) in let e = c .whole-states .ensures in omega arith
 
 cast-t7 : tie.Need-cast-t7
-cast-t7 c = let m = states _ _ (c .before .before .if1 .left) (c .before .if2 .left) in let e = c .whole-states .ensures in omega arith
+cast-t7 c = let m = most _ _ (c .before .before .if1 .left) (c .before .if2 .left) in let e = c .whole-states .ensures in omega arith
 
 returns-3 : tie.Need-returns-3
 returns-3 c = ap (λ n. Count (c .before .before .before .args .t + n)) (c .whole-states .ensures) ∙ ordered _ _ (c .before .before .if1 .left) (c .before .if2 .left)
