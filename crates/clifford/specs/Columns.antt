@@ -32,6 +32,10 @@ rowOf b = cond (leb b 128) (b - 1) (b - 129)
 abbrev pub isMinus : ℕ → Bool
 isMinus b = leb 129 b
 
+-- the byte of −1 times a column
+abbrev pub negated : ℕ → ℕ
+negated b = cond (ltb b 128) (b + 128) (b - 128)
+
 -- how many of these rows are below row r
 abbrev pub below : ℕ → List ℕ → ℕ
 below r [] = 0

@@ -5,7 +5,7 @@ ghost use mathlib.Core.Path.{_≡_};
 ghost use Prim.Native.Nat.{_+_, _<_};
 ghost use lib.ListN.{drop, getD};
 ghost use Rattle.matrix.specs.Matrix.{entry};
-ghost use Rattle.clifford.specs.Columns.{areColumnBytes, columnByte, columnBytes, differs, different, isColumnByte, rowOf};
+ghost use Rattle.clifford.specs.Columns.{areColumnBytes, columnByte, columnBytes, differs, different, isColumnByte, negated, rowOf};
 
 // The byte of column c: of its first entry that is not 0.
 fn column_byte(m: [i64; 36], c: usize) -> u8
@@ -75,6 +75,16 @@ pub fn row_of(b: u8) -> u8
         return b - 1;
     }
     b - 129
+}
+
+// The byte of −1 times a column.
+pub fn negate(b: u8) -> u8
+    ensures { λ r. ⌜ r ≡ negated b ⌝ }
+{
+    if b < 128 {
+        return b + 128;
+    }
+    b - 128
 }
 
 // Whether no column after c has the row of column c.

@@ -1,16 +1,11 @@
 -- Products of signed permutations (document 01, "Clifford"), by the bytes of their columns.
 use mathlib.Core.Bool.{cond}
 use mathlib.Core.List.{List, [], _∷_, map}
-use Prim.Native.Nat.{ℕ, _+_, _-_}
-use lib.Dec.{ltb}
+use Prim.Native.Nat.{ℕ}
 use lib.ListN.{getD}
-use Rattle.clifford.specs.Columns.{rowOf, isMinus}
+use Rattle.clifford.specs.Columns.{rowOf, isMinus, negated}
 use Rattle.letter.specs.declared.Gate.{Gate}
 use Rattle.letter.specs.Gate.{columns, isCs}
-
--- the byte of −1 times a column
-abbrev pub negated : ℕ → ℕ
-negated b = cond (ltb b 128) (b + 128) (b - 128)
 
 -- where the matrix with columns bs takes the column of byte b
 abbrev pub imageOf : List ℕ → ℕ → ℕ

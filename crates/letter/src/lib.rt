@@ -5,7 +5,7 @@ ghost use mathlib.Core.Path.{_≡_};
 ghost use mathlib.Core.Bool.{true};
 ghost use Rattle.clifford.specs.Columns.{isColumnByte, areColumnBytes};
 ghost use Rattle.letter.specs.Gate.{letter, gateOf, isCs};
-ghost use Rattle.letter.specs.Composition.{negated, imageOf, composed, composedGate};
+ghost use Rattle.letter.specs.Composition.{imageOf, composed, composedGate};
 
 // A letter of a gate list (document 01, "Gate images").
 pub enum Gate {
@@ -72,16 +72,6 @@ pub fn is_cs(g: Gate) -> bool
     }
 }
 
-// The byte of −1 times a column.
-fn negate(b: u8) -> u8
-    ensures { λ r. ⌜ r ≡ negated b ⌝ }
-{
-    if b < 128 {
-        return b + 128;
-    }
-    b - 128
-}
-
 // Where the matrix with these columns takes the column of byte b.
 fn image(columns: [u8; 6], b: u8) -> u8
     requires { ⌜ isColumnByte b ≡ true ⌝ }
@@ -90,7 +80,7 @@ fn image(columns: [u8; 6], b: u8) -> u8
     let row = clifford::row_of(b) as usize;
     let c = columns[row];
     if 129 <= b {
-        return negate(c);
+        return clifford::negate(c);
     }
     c
 }

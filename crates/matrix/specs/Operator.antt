@@ -1,10 +1,11 @@
 -- Operators (document 01, "Operators"), for every exponent.
+use mathlib.Core.Logic.{_⊎_}
 use mathlib.Core.Path.{_≡_}
 use Prim.Native.Nat.{ℕ, zero, suc, _+_, _^_, _<_, _≤_}
-use lib.IntN.{ℤ, pos, _+ℤ_}
+use lib.IntN.{ℤ, pos, negsuc, _+ℤ_}
 use lib.Signed.{_<ℤ_}
 use Rattle.matrix.specs.Integer.{Even}
-use Rattle.matrix.specs.Matrix.{Matrix, product, OrthogonalRows}
+use Rattle.matrix.specs.Matrix.{Matrix, product, scaled, OrthogonalRows}
 use Rattle.matrix.specs.Determinant.{det}
 
 -- ---- ℤ[√2]: the pair (a, b) is a + b √2
@@ -45,6 +46,14 @@ timesOperator A B = operator (A .exponent + B .exponent) (product 6 (A .matrix) 
 -- the two stand for the same matrix
 pub record SameOperator (A B : Operator) : Type 0 where
   pub entries : (i j : ℕ) → i < 6 → j < 6 → Equal (A .exponent) (A .matrix i j) (B .exponent) (B .matrix i j)
+
+-- −M
+abbrev pub negative : Operator → Operator
+negative A = operator (A .exponent) (scaled (negsuc 0) (A .matrix))
+
+-- "Two operators agree up to sign" (document 02, P2): the two stand for the same matrix, or for a matrix and its negative
+abbrev pub SameUpToSign : Operator → Operator → Type 0
+SameUpToSign A B = SameOperator A B ⊎ SameOperator A (negative B)
 
 -- "the product of two different rows is 0 and that of each row with itself is 2 to the power k"
 pub record Orthogonal (A : Operator) : Type 0 where

@@ -4,7 +4,7 @@ use borrow.Author.Needs.{needs}
 use borrow.Author.Tests.{le-leb, lt-leb}
 use native.Mathlib.Omega.{arith}
 use lib.ListN.{getD}
-use Rattle.letter.specs.Composition.{negated}
+use Rattle.clifford.specs.Columns.{negated}
 use Rattle.clifford.specs.Laws.Columns.{row-lt}
 use Rattle.letter.proofs.image.Statement.{statement}
 use Rattle.letter.proofs.image.Tie as tie

@@ -8,8 +8,8 @@ use native.Mathlib.Omega.{arith}
 use lib.Dec.{eqb, leb}
 use lib.ListN.{getD, length}
 use borrow.Author.Tests.{eqb-true, leb-true}
-use Rattle.clifford.specs.Columns.{rowOf, isColumnByte, areColumnBytes, arePermutation}
-use Rattle.letter.specs.Composition.{negated, imageOf, composed}
+use Rattle.clifford.specs.Columns.{rowOf, negated, isColumnByte, areColumnBytes, arePermutation}
+use Rattle.letter.specs.Composition.{imageOf, composed}
 use Rattle.letter.specs.Laws.Signed.{Axis, e1, e2, e3, e4, e5, e6, Column, col, Perm, perm, turned, apply, times, rowNumber, toByte, fromByte, bytes, fromBytes}
 use Rattle.matrix.specs.Laws.Test.{and-left, and-right}
 use Rattle.letter.specs.Laws.Every.{everyBool, everyAxis, everyColumn, every-column}

@@ -14,7 +14,7 @@ use lib.Seq.{getD-set-same, getD-set-other}
 use lib.Signed.{leZ}
 use borrow.Author.Tests.{eq-eqb, eqb-true, le-leb, leb-true, le-ltb}
 use Rattle.matrix.specs.declared.Least.{Least}
-use Rattle.matrix.specs.Range.{sum, total}
+use Rattle.matrix.specs.Range.{sum, bits, total}
 use Rattle.matrix.specs.Integer.{parity, half, equals}
 use Rattle.matrix.specs.Matrix.{Matrix, Same, δ, transpose, replaced, combined, rowProduct, entry, listed}
 use Rattle.matrix.specs.Determinant.{det}
@@ -168,6 +168,11 @@ module _ (M : Matrix) (r : ℕ) where
 -- rows of equal bits have entries of equal parity
 pub equal-masks : (M : Matrix) (i j : ℕ) → rowMask M i ≡ rowMask M j → (c : ℕ) → c < 6 → parity (M i c) ≡ parity (M j c)
 equal-masks M i j e c h = sym (mask-bit M i c h) ∙ ap (λ x. x / 2 ^ c % 2) e ∙ mask-bit M j c h
+
+-- and entries of equal parity make equal bits
+pub equal-parities : (M N : Matrix) (i j : ℕ) → ((c : ℕ) → c < 6 → parity (M i c) ≡ parity (N j c)) → rowMask M i ≡ rowMask N j
+unfolding rowMask bits
+equal-parities M N i j h = rw (h 0 (omega arith), h 1 (omega arith), h 2 (omega arith), h 3 (omega arith), h 4 (omega arith), h 5 (omega arith))
 
 -- ---- even matrices and their halves
 

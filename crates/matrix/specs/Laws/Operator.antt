@@ -7,12 +7,12 @@ use native.Mathlib.Omega.{arith}
 use native.Mathlib.Decide.{decLe}
 use native.Mathlib.Nat.{zero-add, suc-add, two-pow-succ, mul-pos, mul-le-mul, le-trans}
 use lib.Pow.{pow-add, pow-pos, pow-mono}
-use lib.IntN.{ℤ, pos, natAbs, pow, _+ℤ_, _*ℤ_, zero-*ℤ, *ℤ-zero, *ℤ-comm}
+use lib.IntN.{ℤ, pos, negsuc, natAbs, pow, _+ℤ_, _*ℤ_, zero-*ℤ, *ℤ-zero, *ℤ-comm}
 use lib.Signed.{_<ℤ_}
 use Rattle.matrix.specs.Range.{sum}
 use Rattle.matrix.specs.Matrix.{Matrix, Same, δ, scaled, rowProduct}
 use Rattle.matrix.specs.Determinant.{det}
-use Rattle.matrix.specs.Operator.{Surd, whole, root, raised, Equal, Operator, operator, SameOperator, timesOperator, Orthogonal, Proper, LeastExponent, Reduced}
+use Rattle.matrix.specs.Operator.{Surd, whole, root, raised, Equal, Operator, operator, SameOperator, timesOperator, negative, Orthogonal, Proper, LeastExponent, Reduced}
 use Rattle.matrix.specs.Laws.Integer.{+ℤ-swap, *ℤ-distr-r, *ℤ-distr-l, *ℤ-unit-l, *ℤ-unit-r, *ℤ-left-comm, *ℤ-cancel-l, pos-nz, double-cancel, positive-of-times, times-positive, square-size}
 use Rattle.matrix.specs.Laws.Ring.{var, num, _:+_, _:*_, ring}
 use Rattle.matrix.specs.Laws.Sum.{sum-cong, sum-zero, term-le-sum, δ-same}
@@ -152,6 +152,12 @@ times-orthogonal {A} {B} p q = record {
 }
 
 -- ---- being orthogonal or proper is a property of the matrix that the operator stands for
+
+pub negative-orthogonal : {A : Operator} → Orthogonal A → Orthogonal (negative A)
+negative-orthogonal {A} o = record { rows = λ i j hi hj. sum-cong (λ c hc. twice (A .matrix i c) (A .matrix j c)) ∙ o .rows i j hi hj }
+  where
+    twice : (x y : ℤ) → negsuc 0 *ℤ x *ℤ (negsuc 0 *ℤ y) ≡ x *ℤ y
+    twice x y = ring (x ∷ y ∷ []) (num (negsuc 0) :* var 0 :* (num (negsuc 0) :* var 1)) (var 0 :* var 1) refl
 
 pub same-orthogonal : {A B : Operator} → SameOperator A B → Orthogonal A → Orthogonal B
 same-orthogonal {A} {B} h o = record { rows = λ i j hi hj. at i j hi hj }

@@ -42,16 +42,16 @@ pub record Taken (k : ℕ) (M : Matrix) (gs : List ℕ) (C : Matrix) : Type 0 wh
 
 -- after a step the array is reduced and orthogonal again, one exponent lower
 module _ (k : ℕ) (m : List ℤ) (o : Orthogonal (operator (suc k) (entry m))) (r : Reduced (operator (suc k) (entry m))) where
-  step-same : Same 6 (entry (step m)) (cut (chosen m) (entry m))
+  pub step-same : Same 6 (entry (step m)) (cut (chosen m) (entry m))
   step-same = entry-listed (cut (chosen m) (entry m))
 
   step-operator : SameOperator (operator k (cut (chosen m) (entry m))) (operator k (entry (step m)))
   step-operator = same-operator-of _ _ refl (λ i j hi hj. sym (step-same i j hi hj))
 
-  step-orthogonal : Orthogonal (operator k (entry (step m)))
+  pub step-orthogonal : Orthogonal (operator k (entry (step m)))
   step-orthogonal = same-orthogonal step-operator (one-step k (entry m) o r .orthogonal)
 
-  step-reduced : Reduced (operator k (entry (step m)))
+  pub step-reduced : Reduced (operator k (entry (step m)))
   step-reduced = record { small = λ e. one-step k (entry m) o r .reduced .small (λ i j hi hj. subst (λ z. Even z) (step-same i j hi hj) (e i j hi hj)) }
 
 -- ---- a reduction that is under way: n generators are taken

@@ -70,7 +70,7 @@ module _ (g : ℕ) (l : 1 ≤ g) (u : g ≤ 15) (M : Matrix) (f : fits (rowMask 
   product-cut r c hr hc = sym (generator-product g l u (cut g M) r c hr hc ∙ turned-cut r c hr hc)
 
   -- what is left, twice over, is the generator's inverse times the matrix
-  doubled : Same 6 (product 6 (transpose (generator g)) M) (scaled (pos 2) (cut g M))
+  pub doubled : Same 6 (product 6 (transpose (generator g)) M) (scaled (pos 2) (cut g M))
   doubled r c hr hc =
       product-cong (same-refl 6 (transpose (generator g))) product-cut r c hr hc
       ∙ ap (λ X. X r c) (sym (product-assoc 6 (transpose (generator g)) (generator g) (cut g M)))

@@ -1,6 +1,7 @@
 -- The array of masks holds the rows' masks, and the choice looks at no other.
-use mathlib.Core.Path.{ap, _∙_}
+use mathlib.Core.Path.{ap, ap₂, _∙_}
 use native.Mathlib.Nat.{zero-add}
+use lib.Dec.{eqb}
 use denote.Ref.{now}
 use borrow.Author.Needs.{needs}
 use Rattle.matrix.specs.Matrix.{entry}
@@ -22,7 +23,7 @@ returns : tie.Need-returns
 returns c =
     let f = rowMask (entry (now (c .before .before .args .m))) in
     c .first-that-fits .ensures ∙ ap (λ masks. firstFit (maskAt masks)) (c .before .row-masks .ensures)
-    ∙ first-fit-cong _ f (λ r h. getD-tabulate f 0 6 r 0 h ∙ ap f (zero-add r))
+    ∙ first-fit-cong _ f (λ r s hr hs. ap₂ eqb (getD-tabulate f 0 6 r 0 hr ∙ ap f (zero-add r)) (getD-tabulate f 0 6 s 0 hs ∙ ap f (zero-add s)))
 
 pub first-fit-spec : {M : Type 1} → statement M
 first-fit-spec = tie.close (tie.spec row-masks-requires first-that-fits-requires returns)

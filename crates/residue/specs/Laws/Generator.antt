@@ -134,19 +134,20 @@ module _ (g : ℕ) (l : 1 ≤ g) (u : g ≤ 15) where
       )
       (ring (det 6 M ∷ []) (num (pos 2) :* (num (pos 2) :* (num (pos 2) :* var 0))) (num (pos 8) :* var 0) refl)
 
--- ---- the choice depends on the six rows alone
+-- ---- the choice depends on which of the six rows group together
 
-module _ (f f′ : ℕ → ℕ) (h : (r : ℕ) → r < 6 → f r ≡ f′ r) where
-  fits-cong : (g : ℕ) → 1 ≤ g → g ≤ 15 → fits f g ≡ fits f′ g
+-- f and f′ put the same rows into one group
+abbrev pub Alike : (ℕ → ℕ) → (ℕ → ℕ) → Type 0
+Alike f f′ = (r s : ℕ) → r < 6 → s < 6 → eqb (f r) (f s) ≡ eqb (f′ r) (f′ s)
+
+module _ (f f′ : ℕ → ℕ) (h : Alike f f′) where
+  pub fits-cong : (g : ℕ) → 1 ≤ g → g ≤ 15 → fits f g ≡ fits f′ g
   unfolding fits everyFrom
   fits-cong g l u =
       rw (
-        h (low g 0) (low-six g l u 0 (omega arith)),
-        h (high g 0) (high-six g l u 0 (omega arith)),
-        h (low g 1) (low-six g l u 1 (omega arith)),
-        h (high g 1) (high-six g l u 1 (omega arith)),
-        h (low g 2) (low-six g l u 2 (omega arith)),
-        h (high g 2) (high-six g l u 2 (omega arith)),
+        h (low g 0) (high g 0) (low-six g l u 0 (omega arith)) (high-six g l u 0 (omega arith)),
+        h (low g 1) (high g 1) (low-six g l u 1 (omega arith)) (high-six g l u 1 (omega arith)),
+        h (low g 2) (high g 2) (low-six g l u 2 (omega arith)) (high-six g l u 2 (omega arith)),
       )
 
   pub first-fit-cong : firstFit f ≡ firstFit f′

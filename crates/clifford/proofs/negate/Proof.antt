@@ -1,8 +1,8 @@
 -- The test on the byte is the definition's.
 use borrow.Author.Needs.{needs}
 use borrow.Author.Tests.{lt-ltb, le-ltb}
-use Rattle.letter.proofs.negate.Statement.{statement}
-use Rattle.letter.proofs.negate.Tie as tie
+use Rattle.clifford.proofs.negate.Statement.{statement}
+use Rattle.clifford.proofs.negate.Tie as tie
 
 add-result : tie.Need-add-result
 add-result c = search needs
