@@ -36,6 +36,17 @@ isMinus b = leb 129 b
 abbrev pub negated : ℕ → ℕ
 negated b = cond (ltb b 128) (b + 128) (b - 128)
 
+-- a sign as a byte: 0 for +1, any other for −1. The number that it stands for
+abbrev pub signOf : ℕ → ℤ
+signOf s = cond (eqb s 0) (pos 1) (negsuc 0)
+
+-- a column's byte times the sign s, and so of all columns
+abbrev pub signedByte : ℕ → ℕ → ℕ
+signedByte s b = cond (eqb s 0) b (negated b)
+
+abbrev pub signed : ℕ → List ℕ → List ℕ
+signed s bs = map (signedByte s) bs
+
 -- how many of these rows are below row r
 abbrev pub below : ℕ → List ℕ → ℕ
 below r [] = 0

@@ -5,7 +5,7 @@ ghost use mathlib.Core.Path.{_≡_};
 ghost use Prim.Native.Nat.{_+_, _<_};
 ghost use lib.ListN.{drop, getD};
 ghost use Rattle.matrix.specs.Matrix.{entry};
-ghost use Rattle.clifford.specs.Columns.{areColumnBytes, columnByte, columnBytes, differs, different, isColumnByte, negated, rowOf};
+ghost use Rattle.clifford.specs.Columns.{areColumnBytes, columnByte, columnBytes, differs, different, isColumnByte, negated, rowOf, signedByte};
 
 // The byte of column c: of its first entry that is not 0.
 fn column_byte(m: [i64; 36], c: usize) -> u8
@@ -85,6 +85,16 @@ pub fn negate(b: u8) -> u8
         return b + 128;
     }
     b - 128
+}
+
+// A column's byte times a sign: 0 for +1, any other number for −1.
+pub fn signed_byte(b: u8, sign: u8) -> u8
+    ensures { λ r. ⌜ r ≡ signedByte sign b ⌝ }
+{
+    if sign == 0 {
+        return b;
+    }
+    negate(b)
 }
 
 // Whether no column after c has the row of column c.

@@ -9,11 +9,11 @@ ghost use Rattle.cut.specs.Output.{cutText};
 fn answer(file: &[u8], out: &mut [u8; 256]) -> usize
     ensures { λ r. ⌜ Appended (cutText (now (file .entry))) 0 (now (out .entry)) (now (out .exit)) r × Counts r (now (out .exit)) ⌝ }
 {
-    let mut sheet = [0u8; 34];
+    let mut sheet = [0u8; 35];
     let answer = operator::operator_to_sheet(file, &mut sheet);
     match answer {
         Answer::Count(count) => {
-            let end = count as usize + 6;
+            let end = count as usize + sheet_bytes::SHORTEST;
             let next = line::write_count(count, out, 0);
             line::write_sheet(&sheet[..end], out, next)
         }

@@ -10,11 +10,11 @@ use Rattle.matrix.specs.Operator.{SameOperator, LeastExponent}
 use Rattle.file.specs.declared.Answer.{Answer}
 use Rattle.file.specs.declared.Answer.the-variants.{Count, Refused}
 use Rattle.file.specs.File.{largestExponent, fileLength, fileExponent, fileMatrix, written, fileOperator}
-use Rattle.reduction.specs.Reduction.{sheet, sheetOperator}
 use Rattle.letter.specs.declared.Gate.{Gate}
 use Rattle.letter.specs.Gate.{letter}
 use Rattle.gate.specs.Product.{MultipliesTo, csGates}
 use Rattle.operator.specs.declared.Listed as listed
+use Rattle.sheet_bytes.specs.Bytes.{sheet, sheetOperator}
 use Rattle.acceptance.specs.Acceptance.{fileRefusal}
 use Rattle.acceptance.specs.Cutting.{fileCount}
 
@@ -45,7 +45,7 @@ pub record ExactlyRefused (b : List ℕ) (n : ℕ) : Type 0 where
 
 -- ---- sheets
 
--- "A sheet is … its generators in order, times its Clifford"
+-- the sheet of a file's operator
 abbrev pub fileSheet : List ℕ → List ℕ
 fileSheet b = sheet (fileExponent b) (fileMatrix b)
 
@@ -60,7 +60,7 @@ sheetBuffer b old = cond (eqb (fileRefusal b) 0) (cond (ltb (length old) (length
 pub record SheetPromise (b old new : List ℕ) (a : Answer) : Type 0 where
   pub answer : a ≡ sheetAnswer b (length old)
   pub buffer : new ≡ sheetBuffer b old
-  -- demand 2: the sheet multiplies to the operator handed in
+  -- demand 2: the sheet's generators in order, times its Clifford, times the sign are the operator handed in
   pub multiplies : fileRefusal b ≡ 0 → SameOperator (sheetOperator (fileSheet b)) (fileOperator b)
   -- demand 3: the count is the least exponent
   pub least : fileRefusal b ≡ 0 → LeastExponent (fileOperator b) (fileCount b)

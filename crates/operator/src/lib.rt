@@ -2,28 +2,29 @@
 
 use file::Answer;
 ghost use mathlib.Core.Path.{_≡_};
-ghost use mathlib.Core.List.{_++_};
 ghost use Prim.Native.Nat.{_+_, _≤_};
 ghost use lib.ListN.{length, take};
 ghost use Rattle.matrix.specs.Matrix.{entry};
 ghost use Rattle.file.specs.File.{written};
+ghost use Rattle.sheet_bytes.specs.Bytes.{shortest, sheetBytes};
 ghost use Rattle.operator.specs.Promise.{SheetPromise, GatesPromise};
 
-// The sheet at the front of `out`; the bytes past it stay.
+// The sheet of the first `count` generator numbers and of the columns of what remains, at the front of `out`; the bytes past it stay.
 fn write_sheet(count: u8, numbers: [u8; 60], columns: [u8; 6], out: &mut [u8])
-    requires { ⌜ (count ≤ 60) × (count + 6 ≤ length (now out)) ⌝ }
-    ensures { λ r. ⌜ now (out .exit) ≡ written (now (out .entry)) (take count numbers ++ columns) ⌝ }
+    requires { ⌜ (count ≤ 60) × (count + shortest ≤ length (now out)) ⌝ }
+    ensures { λ r. ⌜ now (out .exit) ≡ written (now (out .entry)) (sheetBytes (take count numbers) columns) ⌝ }
 {
-    let end = count as usize + 6;
+    let end = count as usize + sheet_bytes::SHORTEST;
     let mut n = 0usize;
     while n < end {
-        out[n] = reduction::sheet_byte(count, numbers, columns, n);
+        out[n] = sheet_bytes::sheet_byte(count, numbers, columns, n);
         n += 1;
     }
 }
 
 // An operator file into a sheet at the front of `out`.
-// Wrong, and refused: the first generator's number in every place; the exponent that the file carries as the count.
+// Wrong, and refused: the first generator's number in every place; the exponent that the file carries as the count; a last byte of 0 for
+// every operator.
 pub fn operator_to_sheet(bytes: &[u8], out: &mut [u8]) -> Answer
     ensures { λ r. ⌜ SheetPromise (now (bytes .entry)) (now (out .entry)) (now (out .exit)) r ⌝ }
 {
@@ -35,7 +36,7 @@ pub fn operator_to_sheet(bytes: &[u8], out: &mut [u8]) -> Answer
     let count = cut.count;
     let numbers = cut.numbers;
     let columns = cut.columns;
-    if out.len() < count as usize + 6 {
+    if out.len() < count as usize + sheet_bytes::SHORTEST {
         return Answer::Refused(6);
     }
     write_sheet(count, numbers, columns, out);

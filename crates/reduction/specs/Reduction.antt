@@ -1,12 +1,10 @@
 -- The rule of cutting (document 01), for operators of every exponent. A matrix is the value of an array of 36 numbers.
-use mathlib.Core.List.{List, [], _∷_, _++_}
-use Prim.Native.Nat.{ℕ, zero, suc, _-_}
+use mathlib.Core.List.{List, [], _∷_}
+use Prim.Native.Nat.{ℕ, zero, suc}
 use lib.IntN.{ℤ}
-use lib.ListN.{length, take, drop}
 use Rattle.matrix.specs.Matrix.{Matrix, entry, listed}
 use Rattle.matrix.specs.Operator.{Operator, operator, timesOperator}
 use Rattle.matrix.specs.Array.{rowMask, halfSums, leastForm}
-use Rattle.clifford.specs.Columns.{columnsMatrix, columnBytes}
 use Rattle.residue.specs.Generator.{low, high, generator, firstFit}
 
 -- document 01's cut: "put its inverse on the left: rows i and j become half of (ri + rj) and half of (rj − ri)"
@@ -39,24 +37,7 @@ taken k m = generators (leastForm k m .exponent) (leastForm k m .matrix)
 abbrev pub remaining : ℕ → List ℤ → List ℤ
 remaining k m = remainder (leastForm k m .exponent) (leastForm k m .matrix)
 
--- "Sheet: t bytes with the generator numbers, then six bytes for columns 1 to 6 of the Clifford"
-unfoldable pub sheet : ℕ → List ℤ → List ℕ
-sheet k m = taken k m ++ columnBytes (entry (remaining k m))
-
-abbrev pub sheetOf : Operator → List ℕ
-sheetOf A = sheet (A .exponent) (listed (A .matrix))
-
 -- "its generators in order, times its Clifford": the operator of generator numbers and a matrix of exponent 0
 unfoldable pub normalForm : List ℕ → Matrix → Operator
 normalForm [] C = operator 0 C
 normalForm (g ∷ gs) C = timesOperator (operator 1 (generator g)) (normalForm gs C)
-
--- a sheet's generator numbers, its six columns, and its operator: "its generators in order, times its Clifford"
-abbrev pub sheetNumbers : List ℕ → List ℕ
-sheetNumbers s = take (length s - 6) s
-
-abbrev pub sheetColumns : List ℕ → List ℕ
-sheetColumns s = drop (length s - 6) s
-
-abbrev pub sheetOperator : List ℕ → Operator
-sheetOperator s = normalForm (sheetNumbers s) (columnsMatrix (sheetColumns s))

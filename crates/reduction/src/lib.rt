@@ -1,9 +1,7 @@
 // The reduction of an operator to its normal form. The contracts cite specs/Reduction.antt.
 
 ghost use mathlib.Core.Path.{_≡_};
-ghost use mathlib.Core.List.{_++_};
-ghost use Prim.Native.Nat.{_+_, _≤_, _<_, _^_};
-ghost use lib.ListN.{getD, take};
+ghost use Prim.Native.Nat.{_≤_, _^_};
 ghost use Rattle.matrix.specs.Matrix.{entry, listed};
 ghost use Rattle.matrix.specs.Operator.{operator, Orthogonal, Reduced};
 ghost use Rattle.matrix.specs.Array.{Bounded};
@@ -63,16 +61,4 @@ pub fn normal_form(k: u8, m: [i64; 36]) -> Normal
     let least = matrix::least_form(k, m);
     let matrix = least.matrix;
     reduce(least.exponent, matrix)
-}
-
-// Byte n of the sheet of the first `count` generator numbers and a Clifford.
-pub fn sheet_byte(count: u8, numbers: [u8; 60], columns: [u8; 6], n: usize) -> u8
-    requires { ⌜ (count ≤ 60) × (n < count + 6) ⌝ }
-    ensures { λ r. ⌜ r ≡ getD (take count numbers ++ columns) n 0 ⌝ }
-{
-    let t = count as usize;
-    if n < t {
-        return numbers[n];
-    }
-    columns[n - t]
 }

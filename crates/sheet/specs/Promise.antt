@@ -12,8 +12,8 @@ use Rattle.matrix.specs.Array.{leastForm}
 use Rattle.file.specs.declared.Answer.{Answer}
 use Rattle.file.specs.declared.Answer.the-variants.{Count, Refused}
 use Rattle.file.specs.File.{fileLength, fileExponent, fileOperator, fileOf, written}
-use Rattle.reduction.specs.Reduction.{sheet, sheetOperator}
 use Rattle.file.specs.declared.Read.{Read}
+use Rattle.sheet_bytes.specs.Bytes.{shortest, sheet, sheetOperator}
 use Rattle.sheet_bytes.specs.Sheet.{sheetRefusal, sheetLeast}
 
 -- what is kept of an operator that is to have this sheet: 13, or 0 and the operator at the least exponent
@@ -32,7 +32,7 @@ pub record SheetRead (s : List ℕ) (r : Read) : Type 0 where
 abbrev pub sheetFile : List ℕ → List ℕ
 sheetFile s = fileOf (sheetLeast s .exponent) (sheetLeast s .matrix)
 
--- the answer, where the lent buffer has n bytes: "Sheets 10, 11, 12, 13, 6", and 6 is "shorter than … 73 bytes for an operator"
+-- the answer, where the lent buffer has n bytes: the refusals of a sheet, and then 6, "shorter than … 73 bytes for an operator"
 unfoldable pub operatorAnswer : List ℕ → ℕ → Answer
 operatorAnswer s n = cond (eqb (sheetRefusal s) 0) (cond (ltb n fileLength) (Refused 6) (Count (sheetLeast s .exponent))) (Refused (sheetRefusal s))
 
@@ -44,10 +44,10 @@ operatorBuffer s old =
 pub record OperatorPromise (s old new : List ℕ) (a : Answer) : Type 0 where
   pub answer : a ≡ operatorAnswer s (length old)
   pub buffer : new ≡ operatorBuffer s old
-  -- demand 2: the operator of the file written is the sheet's, its generators in order times its Clifford
+  -- demand 2: the operator of the file written is the sheet's, its generators in order, times its Clifford, times the sign
   pub multiplies : sheetRefusal s ≡ 0 → SameOperator (fileOperator (sheetFile s)) (sheetOperator s)
   -- demand 3: the count is the operator's least exponent, and the number of the sheet's generators
   pub least : sheetRefusal s ≡ 0 → LeastExponent (sheetOperator s) (sheetLeast s .exponent)
-  pub exact : sheetRefusal s ≡ 0 → length s ≡ sheetLeast s .exponent + 6
+  pub exact : sheetRefusal s ≡ 0 → length s ≡ sheetLeast s .exponent + shortest
   -- it is the exponent of the file written
   pub count : fileExponent (sheetFile s) ≡ sheetLeast s .exponent

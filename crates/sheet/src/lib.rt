@@ -1,9 +1,8 @@
-// Sheets read into operator files: refusals 10 to 13 and 6. The contracts cite specs/Promise.antt.
+// Sheets read into operator files: refusals 10 to 13, 15 and 6. The contracts cite specs/Promise.antt.
 
 use file::Answer;
 use file::Read;
 ghost use mathlib.Core.Bool.{true};
-ghost use mathlib.Core.List.{_++_};
 ghost use mathlib.Core.Path.{_≡_};
 ghost use Prim.Native.Nat.{_+_, _≤_};
 ghost use lib.ListN.{length, getD, take};
@@ -13,6 +12,7 @@ ghost use Rattle.matrix.specs.Matrix.{entry, listed};
 ghost use Rattle.matrix.specs.Operator.{operator, Orthogonal};
 ghost use Rattle.clifford.specs.Columns.{arePermutation, columnsMatrix};
 ghost use Rattle.reduction.specs.Reduction.{normalForm};
+ghost use Rattle.sheet_bytes.specs.Bytes.{sheetBytes};
 ghost use Rattle.sheet_bytes.specs.Sheet.{isNumber};
 ghost use Rattle.sheet.specs.Promise.{CutAgain, SheetRead, OperatorPromise};
 
@@ -31,17 +31,17 @@ fn multiplied(bytes: &[u8], count: usize, columns: [u8; 6]) -> [i64; 36]
     times::times_columns(m, columns)
 }
 
-// Whether the bytes are the sheet of the first `count` generator numbers and a Clifford.
+// Whether the bytes are the sheet of the first `count` generator numbers and of the columns of what remains.
 fn is_sheet(bytes: &[u8], count: u8, numbers: [u8; 60], columns: [u8; 6]) -> bool
     requires { ⌜ count ≤ 60 ⌝ }
-    ensures { λ r. ⌜ r ≡ sameList (take count numbers ++ columns) (now (bytes .entry)) ⌝ }
+    ensures { λ r. ⌜ r ≡ sameList (sheetBytes (take count numbers) columns) (now (bytes .entry)) ⌝ }
 {
-    if bytes.len() != count as usize + 6 {
+    if bytes.len() != count as usize + sheet_bytes::SHORTEST {
         return false;
     }
     let mut n = 0usize;
     while n < bytes.len() {
-        if reduction::sheet_byte(count, numbers, columns, n) != bytes[n] {
+        if sheet_bytes::sheet_byte(count, numbers, columns, n) != bytes[n] {
             return false;
         }
         n += 1;
@@ -80,14 +80,14 @@ fn read_sheet(bytes: &[u8]) -> Read
     if refusal != 0 {
         return file::refused(refusal);
     }
-    let count = bytes.len() - 6;
-    let columns = sheet_bytes::columns_from(bytes, count);
+    let count = bytes.len() - sheet_bytes::SHORTEST;
+    let columns = sheet_bytes::columns_from(bytes, count, bytes[bytes.len() - 1]);
     let m = multiplied(bytes, count, columns);
     cut_again(bytes, count as u8, m)
 }
 
 // A sheet into an operator file at the front of `out`.
-// Wrong, and refused: a sheet taken in that cutting would not give; the generators multiplied in the other order.
+// Wrong, and refused: a sheet taken in that cutting would not give; the generators multiplied in the other order; the last byte passed over.
 pub fn sheet_to_operator(bytes: &[u8], out: &mut [u8]) -> Answer
     ensures { λ r. ⌜ OperatorPromise (now (bytes .entry)) (now (out .entry)) (now (out .exit)) r ⌝ }
 {

@@ -1,18 +1,45 @@
-// The tests of a sheet's bytes: refusals 10, 11 and 12. The contracts cite specs/Sheet.antt.
+// A sheet's bytes, written one at a time, and tested: refusals 10, 11, 12 and 15. The contracts cite specs/Bytes.antt and specs/Sheet.antt.
 
 ghost use mathlib.Core.Bool.{true, not, cond};
 ghost use mathlib.Core.Path.{_≡_};
-ghost use Prim.Native.Nat.{_+_, _≤_};
-ghost use lib.ListN.{length, getD, drop};
+ghost use Prim.Native.Nat.{_+_, _≤_, _<_};
+ghost use lib.ListN.{length, getD, take, drop};
 ghost use Rattle.matrix.specs.Range.{every};
 ghost use Rattle.matrix.specs.Matrix.{entry};
-ghost use Rattle.clifford.specs.Columns.{areColumnBytes};
-ghost use Rattle.sheet_bytes.specs.Sheet.{isNumber, isClifford, bytesRefusal};
+ghost use Rattle.clifford.specs.Columns.{areColumnBytes, signed};
+ghost use Rattle.sheet_bytes.specs.Bytes.{shortest, signByte, sheetBytes};
+ghost use Rattle.sheet_bytes.specs.Sheet.{isNumber, isClifford, hasWrongSign, bytesRefusal};
 
-// The fewest and the most bytes of a sheet.
-pub const SHORTEST: usize = 6;
+// The fewest and the most bytes of a sheet: six columns and the sign, and with them up to 28 generators.
+pub const SHORTEST: usize = 7;
 
-pub const LONGEST: usize = 34;
+pub const LONGEST: usize = 35;
+
+// The sign of what remains: 1 where column 1 has -1.
+fn sign_byte(columns: [u8; 6]) -> u8
+    ensures { λ r. ⌜ r ≡ signByte columns ⌝ }
+{
+    if 129 <= columns[0] {
+        return 1;
+    }
+    0
+}
+
+// Byte n of the sheet of the first `count` generator numbers and of the columns of what remains.
+pub fn sheet_byte(count: u8, numbers: [u8; 60], columns: [u8; 6], n: usize) -> u8
+    requires { ⌜ (count ≤ 60) × (n < count + shortest) ⌝ }
+    ensures { λ r. ⌜ r ≡ getD (sheetBytes (take count numbers) columns) n 0 ⌝ }
+{
+    let t = count as usize;
+    if n < t {
+        return numbers[n];
+    }
+    let sign = sign_byte(columns);
+    if n < t + 6 {
+        return clifford::signed_byte(columns[n - t], sign);
+    }
+    sign
+}
 
 // Whether the first `count` bytes are generator numbers.
 fn are_numbers(bytes: &[u8], count: usize) -> bool
@@ -33,23 +60,30 @@ fn are_numbers(bytes: &[u8], count: usize) -> bool
     true
 }
 
-// The last six bytes, from `at` on.
-pub fn columns_from(bytes: &[u8], at: usize) -> [u8; 6]
-    requires { ⌜ length (now bytes) ≡ at + 6 ⌝ }
-    ensures { λ r. ⌜ r ≡ drop at (now (bytes .entry)) ⌝ }
+// The six column bytes from `at` on, times a sign.
+pub fn columns_from(bytes: &[u8], at: usize, sign: u8) -> [u8; 6]
+    requires { ⌜ length (now bytes) ≡ at + shortest ⌝ }
+    ensures { λ r. ⌜ r ≡ signed sign (take 6 (drop at (now (bytes .entry)))) ⌝ }
 {
     let mut columns = [0u8; 6];
     let mut c = 0usize;
     while c < 6 {
-        columns[c] = bytes[at + c];
+        columns[c] = clifford::signed_byte(bytes[at + c], sign);
         c += 1;
     }
     columns
 }
 
-// The refusal of six column bytes, or 0.
-fn columns_refusal(columns: [u8; 6]) -> u8
-    ensures { λ r. ⌜ r ≡ cond (not (areColumnBytes columns)) 11 (cond (not (isClifford columns)) 12 0) ⌝ }
+// Whether the last byte is above 1, or column 1 negative.
+fn has_wrong_sign(columns: [u8; 6], sign: u8) -> bool
+    ensures { λ r. ⌜ r ≡ hasWrongSign columns sign ⌝ }
+{
+    1 < sign || 129 <= columns[0]
+}
+
+// The refusal of six column bytes and a last byte, or 0.
+fn columns_refusal(columns: [u8; 6], sign: u8) -> u8
+    ensures { λ r. ⌜ r ≡ cond (not (areColumnBytes columns)) 11 (cond (not (isClifford columns)) 12 (cond (hasWrongSign columns sign) 15 0)) ⌝ }
 {
     if !clifford::are_column_bytes(columns) {
         return 11;
@@ -59,6 +93,9 @@ fn columns_refusal(columns: [u8; 6]) -> u8
     }
     if !sign::is_even(columns) {
         return 12;
+    }
+    if has_wrong_sign(columns, sign) {
+        return 15;
     }
     0
 }
@@ -73,10 +110,10 @@ pub fn bytes_refusal(bytes: &[u8]) -> u8
     if LONGEST < bytes.len() {
         return 10;
     }
-    let count = bytes.len() - 6;
+    let count = bytes.len() - SHORTEST;
     if !are_numbers(bytes, count) {
         return 11;
     }
-    let columns = columns_from(bytes, count);
-    columns_refusal(columns)
+    let columns = columns_from(bytes, count, 0);
+    columns_refusal(columns, bytes[bytes.len() - 1])
 }

@@ -2,11 +2,14 @@
 
 use file::Answer;
 
-// The bytes before the first 0: what a call has written into a buffer of zeros.
+// A byte that stands in no sheet and in no gate list.
+pub const UNWRITTEN: u8 = 255;
+
+// What a call has written into a buffer of these bytes.
 pub fn front(buffer: &[u8]) -> &[u8] {
     let mut n = 0usize;
     while n < buffer.len() {
-        if buffer[n] == 0 {
+        if buffer[n] == UNWRITTEN {
             return &buffer[..n];
         }
         n += 1;
@@ -49,7 +52,7 @@ pub fn end_line(word: &[u8], answer: Answer) {
 
 // The count and the sheet of an operator file.
 pub fn show_cut(file: &[u8]) {
-    let mut sheet = [0u8; 34];
+    let mut sheet = [UNWRITTEN; 35];
     show_answer(b": count ", operator::operator_to_sheet(file, &mut sheet));
     show_sheet(b", sheet", front(&sheet));
     show(b"\n");
@@ -63,7 +66,7 @@ pub fn cut_case(name: &[u8], file: [u8; 73]) {
 
 // An operator file, by its count alone, or by its refusal.
 pub fn count_case(name: &[u8], file: [u8; 73]) {
-    let mut sheet = [0u8; 34];
+    let mut sheet = [UNWRITTEN; 35];
     show(name);
     end_line(b": count ", operator::operator_to_sheet(&file, &mut sheet));
 }

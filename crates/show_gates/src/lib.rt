@@ -64,7 +64,7 @@ fn end_list(answer: Listed, buffer: &[u8]) {
 
 // An operator file, by its gate list.
 pub fn list_case(name: &[u8], file: [u8; 73]) {
-    let mut gates = [0u8; 7424];
+    let mut gates = [show::UNWRITTEN; 7424];
     show::show(name);
     end_list(operator::operator_to_gates(&file, &mut gates), &gates);
 }

@@ -1,5 +1,5 @@
--- Document 01's trial cuts that are marked to be proved of the definitions, and the orders of document 02, P1: a table of cases, and the test
--- that each passes.
+-- Document 01's trial cuts that are marked to be proved of the definitions, with the last byte of document 02, P2, and that request's own and
+-- the orders of P1: a table of cases, and the test that each passes.
 use mathlib.Core.Bool.{Bool, true, false, _&&_}
 use mathlib.Core.List.{List, [], _∷_}
 use Prim.Native.Nat.{ℕ}
@@ -10,13 +10,13 @@ use Rattle.matrix.specs.Matrix.{Matrix, δ, replaced, listed}
 use Rattle.file.specs.declared.Answer.{Answer}
 use Rattle.file.specs.declared.Answer.the-variants.{Count, Refused}
 use Rattle.file.specs.File.{fileOf}
-use Rattle.reduction.specs.Reduction.{sheetOf}
 use Rattle.letter.specs.declared.Gate.{Gate}
 use Rattle.letter.specs.declared.Gate.the-variants.{H1, Cz, Cs}
 use Rattle.gate.specs.Product.{productOf}
 use Rattle.gate.specs.Reading.{productFile}
 use Rattle.acceptance.specs.Acceptance.{fileRefusal}
 use Rattle.operator.specs.Promise.{fileSheet}
+use Rattle.sheet_bytes.specs.Bytes.{sheetOf}
 use Rattle.sheet_bytes.specs.Sheet.{sheetRefusal}
 use Rattle.order.specs.Order.{orderAnswer}
 
@@ -51,22 +51,28 @@ abbrev pub allPass : List Trial → Bool
 allPass [] = true
 allPass (t ∷ ts) = passes t && allPass ts
 
--- the identity; twice the identity, k 2; the two sheets; the identity with −1 in row 1; `C`; `CC` and `Z`; `HH`, which is the identity; `ZZ`,
--- which is its negative; eight `C`, which are the identity, count 0; `CHC`; the orders
+-- the identity; twice the identity, k 2; two sheets that earn 13; a last byte above 1, also of a sheet that would earn 13; a negative column 1;
+-- columns that are no Clifford; the identity with −1 in row 1; `C`; `CC` and `Z`; `HH`, which is the identity; `ZZ`, which is its negative; eight
+-- `C`, which are the identity, count 0; `CHC`; the orders
 unfoldable pub trials : List Trial
 trials =
-    cuts 0 δ (1 ∷ 2 ∷ 3 ∷ 4 ∷ 5 ∷ 6 ∷ []) ∷
-    cuts 2 (λ r c. pos 2 *ℤ δ r c) (1 ∷ 2 ∷ 3 ∷ 4 ∷ 5 ∷ 6 ∷ []) ∷
-    sheetRefused (13 ∷ 3 ∷ 1 ∷ 2 ∷ 3 ∷ 4 ∷ 5 ∷ 6 ∷ []) 13 ∷
-    sheetRefused (3 ∷ 3 ∷ 1 ∷ 2 ∷ 3 ∷ 4 ∷ 5 ∷ 6 ∷ []) 13 ∷
+    cuts 0 δ (1 ∷ 2 ∷ 3 ∷ 4 ∷ 5 ∷ 6 ∷ 0 ∷ []) ∷
+    cuts 2 (λ r c. pos 2 *ℤ δ r c) (1 ∷ 2 ∷ 3 ∷ 4 ∷ 5 ∷ 6 ∷ 0 ∷ []) ∷
+    sheetRefused (13 ∷ 3 ∷ 1 ∷ 2 ∷ 3 ∷ 4 ∷ 5 ∷ 6 ∷ 0 ∷ []) 13 ∷
+    sheetRefused (3 ∷ 3 ∷ 1 ∷ 2 ∷ 3 ∷ 4 ∷ 5 ∷ 6 ∷ 0 ∷ []) 13 ∷
+    sheetRefused (1 ∷ 2 ∷ 3 ∷ 4 ∷ 5 ∷ 6 ∷ 2 ∷ []) 15 ∷
+    sheetRefused (3 ∷ 3 ∷ 1 ∷ 2 ∷ 3 ∷ 4 ∷ 5 ∷ 6 ∷ 2 ∷ []) 15 ∷
+    sheetRefused (129 ∷ 130 ∷ 131 ∷ 132 ∷ 133 ∷ 134 ∷ 0 ∷ []) 15 ∷
+    sheetRefused (129 ∷ 2 ∷ 3 ∷ 4 ∷ 5 ∷ 6 ∷ 0 ∷ []) 12 ∷
     fileRefused 0 (replaced 0 (λ c. negsuc 0 *ℤ δ 0 c) δ) 5 ∷
-    multiplies (Cs ∷ []) (3 ∷ 1 ∷ 2 ∷ 3 ∷ 4 ∷ 5 ∷ 6 ∷ []) ∷
-    multiplies (Cs ∷ Cs ∷ []) (2 ∷ 129 ∷ 6 ∷ 5 ∷ 132 ∷ 131 ∷ []) ∷
-    multiplies (Cz ∷ []) (2 ∷ 129 ∷ 6 ∷ 5 ∷ 132 ∷ 131 ∷ []) ∷
+    multiplies (Cs ∷ []) (3 ∷ 1 ∷ 2 ∷ 3 ∷ 4 ∷ 5 ∷ 6 ∷ 0 ∷ []) ∷
+    multiplies (Cs ∷ Cs ∷ []) (2 ∷ 129 ∷ 6 ∷ 5 ∷ 132 ∷ 131 ∷ 0 ∷ []) ∷
+    multiplies (Cz ∷ []) (2 ∷ 129 ∷ 6 ∷ 5 ∷ 132 ∷ 131 ∷ 0 ∷ []) ∷
     equals (H1 ∷ H1 ∷ []) 0 δ ∷
     equals (Cz ∷ Cz ∷ []) 0 (λ r c. negsuc 0 *ℤ δ r c) ∷
+    multiplies (Cz ∷ Cz ∷ []) (1 ∷ 2 ∷ 3 ∷ 4 ∷ 5 ∷ 6 ∷ 1 ∷ []) ∷
     equals (Cs ∷ Cs ∷ Cs ∷ Cs ∷ Cs ∷ Cs ∷ Cs ∷ Cs ∷ []) 0 δ ∷
-    multiplies (Cs ∷ H1 ∷ Cs ∷ []) (3 ∷ 13 ∷ 3 ∷ 130 ∷ 1 ∷ 4 ∷ 5 ∷ 6 ∷ []) ∷
+    multiplies (Cs ∷ H1 ∷ Cs ∷ []) (3 ∷ 13 ∷ 3 ∷ 130 ∷ 1 ∷ 4 ∷ 5 ∷ 6 ∷ 0 ∷ []) ∷
     orders 10 50 10 ∷
     orders 10 150 12 ∷
     orders 28 50 29 ∷

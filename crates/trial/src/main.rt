@@ -1,4 +1,4 @@
-// Document 01's trial cuts, and the orders of document 02, P1, run through the five calls: a line for each case, with the answer. I is the
+// Document 01's trial cuts, and the cases of document 02, P1 and P2, run through the five calls: a line for each case, with the answer. I is the
 // identity, and the six rows are those of the example of `cut`.
 
 // An entry of −1, in the 16 bits of an operator file.
@@ -58,6 +58,7 @@ fn gate_lists() {
     show_gates::gates_case(b"CC");
     show_gates::gates_case(b"Z");
     show_gates::gates_case(b"CHC");
+    show_gates::gates_case(b"ZZ");
 }
 
 fn names() {
@@ -72,9 +73,17 @@ fn listed() {
 }
 
 fn sheets() {
-    show::sheet_case(&[3, 13, 3, 130, 1, 4, 5, 6]);
-    show::sheet_case(&[13, 3, 1, 2, 3, 4, 5, 6]);
-    show::sheet_case(&[3, 3, 1, 2, 3, 4, 5, 6]);
+    show::sheet_case(&[3, 13, 3, 130, 1, 4, 5, 6, 0]);
+    show::sheet_case(&[1, 2, 3, 4, 5, 6, 1]);
+    show::sheet_case(&[13, 3, 1, 2, 3, 4, 5, 6, 0]);
+    show::sheet_case(&[3, 3, 1, 2, 3, 4, 5, 6, 0]);
+}
+
+fn signs() {
+    show::sheet_case(&[1, 2, 3, 4, 5, 6, 2]);
+    show::sheet_case(&[3, 3, 1, 2, 3, 4, 5, 6, 2]);
+    show::sheet_case(&[129, 130, 131, 132, 133, 134, 0]);
+    show::sheet_case(&[129, 2, 3, 4, 5, 6, 0]);
 }
 
 fn orders() {
@@ -95,5 +104,6 @@ fn main() {
     names();
     listed();
     sheets();
+    signs();
     orders();
 }

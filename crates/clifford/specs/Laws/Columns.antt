@@ -16,7 +16,7 @@ use Rattle.matrix.specs.Range.{sum, total}
 use Rattle.matrix.specs.Integer.{equals}
 use Rattle.matrix.specs.Matrix.{Matrix, Same, δ, transpose, OrthogonalRows}
 use Rattle.matrix.specs.Operator.{operator, Orthogonal, Proper}
-use Rattle.matrix.specs.Laws.Test.{left, right, or-elim, T-true, true-T}
+use Rattle.matrix.specs.Laws.Test.{left, right, or-elim, and-left, and-right, T-true, true-T}
 use Rattle.matrix.specs.Laws.Integer.{pos-nz, *ℤ-unit-r, equals-yes, equals-no, prodℤ}
 use Rattle.matrix.specs.Laws.Sum.{sum-cong, sum-only, δ-same, δ-other, sum-δ}
 use Rattle.matrix.specs.Laws.Range.{first-found, getD-tabulate, tabulate-is, length-tabulate}
@@ -151,6 +151,10 @@ permutation-complete bs p =
       bytes-complete bs (λ i h. p .bytes i (omega arith)),
       rows-different bs p,
     )
+
+pub columns-valid : (bs : List ℕ) → arePermutation bs ≡ true → areColumnBytes bs ≡ true
+unfolding arePermutation
+columns-valid bs p = and-left (areColumnBytes bs) _ (and-right (eqb (length bs) 6) _ p)
 
 -- ---- the matrix of six bytes
 
@@ -315,7 +319,7 @@ matrix-permutation M o = record {
         signs (isMinus b) (isMinus b′) (rw (z, δ-same (rowOf b)) at p)
 
 -- equal columns have equal bytes: the entry in a byte's own row is its sign
-same-byte : (b b′ : ℕ) → isColumnByte b ≡ true → isColumnByte b′ ≡ true → ((s : ℕ) → s < 6 → columnEntry b′ s ≡ columnEntry b s) → b ≡ b′
+pub same-byte : (b b′ : ℕ) → isColumnByte b ≡ true → isColumnByte b′ ≡ true → ((s : ℕ) → s < 6 → columnEntry b′ s ≡ columnEntry b s) → b ≡ b′
 same-byte b b′ v w h =
     let at : entryOf b′ *ℤ δ (rowOf b) (rowOf b′) ≡ entryOf b =
     sym (column-entry b′ w (rowOf b) (row-lt b v)) ∙ h (rowOf b) (row-lt b v) ∙ column-entry b v (rowOf b) (row-lt b v)

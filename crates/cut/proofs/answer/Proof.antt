@@ -6,6 +6,7 @@ use native.Mathlib.Omega.{arith}
 use lib.ListN.{take, length-append}
 use lib.Seq.{length-take-le}
 use Rattle.file.specs.Laws.Written.{appended-as, appended-length, appended-append}
+use Rattle.sheet_bytes.specs.Bytes.{shortest}
 use Rattle.text.specs.Text.{countWord, sheetWord, refusedWord, countLine, sheetLine}
 use Rattle.text.specs.Laws.Text.{line-length, within}
 use Rattle.cut.specs.Laws.Output.{counted, refused}
@@ -44,9 +45,9 @@ write-sheet-requires c κs =
     let k = counted _ _ _ _ (omega arith) (c .before .before .before .before .before .before .before .before .operator-to-sheet .ensures) _ (c .before .before .before .before .before .answer .given .1) in
     let t = c .before .before .before .before .before .answer .given .0 .0 in
     let buffer = c .before .before .before .before .before .before .before .before .operator-to-sheet .last .1 .0 in
-    let n = length-take-le (t + 6) buffer (k .long) in
+    let n = length-take-le (t + shortest) buffer (k .long) in
     let i = line-length countWord (t ∷ []) in
-    let j = line-length sheetWord (take (t + 6) buffer) in
+    let j = line-length sheetWord (take (t + shortest) buffer) in
     let a = c .before .before .write-count .ensures in
     let e = a .next in
     let l = appended-length a (omega arith) in
@@ -64,12 +65,12 @@ returns c =
     let k = counted _ _ _ _ (omega arith) (c .before .before .before .before .before .before .before .before .before .operator-to-sheet .ensures) _ (c .before .before .before .before .before .before .answer .given .1) in
     let t = c .before .before .before .before .before .before .answer .given .0 .0 in
     let buffer = c .before .before .before .before .before .before .before .before .before .operator-to-sheet .last .1 .0 in
-    let n = length-take-le (t + 6) buffer (k .long) in
+    let n = length-take-le (t + shortest) buffer (k .long) in
     let i = line-length countWord (t ∷ []) in
-    let j = line-length sheetWord (take (t + 6) buffer) in
+    let j = line-length sheetWord (take (t + shortest) buffer) in
     let m = k .small in
     let a = appended-append (c .before .before .before .write-count .ensures) (omega arith) (c .write-sheet .ensures) in
-    let l = length-append (countLine t) (sheetLine (take (t + 6) buffer)) in
+    let l = length-append (countLine t) (sheetLine (take (t + shortest) buffer)) in
     (appended-as (sym (k .text)) a, within a (omega arith))
 
 returns-2 : tie.Need-returns-2

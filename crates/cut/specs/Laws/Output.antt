@@ -11,6 +11,7 @@ use borrow.Author.Tests.{eq-eqb, ne-eqb, le-ltb}
 use Rattle.file.specs.declared.Answer.{Answer}
 use Rattle.file.specs.declared.Answer.the-variants.{Count, Refused}
 use Rattle.file.specs.File.{written}
+use Rattle.sheet_bytes.specs.Bytes.{shortest, longest}
 use Rattle.acceptance.specs.Acceptance.{fileRefusal}
 use Rattle.acceptance.specs.Cutting.{fileCount}
 use Rattle.operator.specs.Promise.{fileSheet, sheetAnswer, sheetBuffer, SheetPromise}
@@ -21,10 +22,10 @@ use Rattle.cut.specs.Output.{cutText}
 -- after a count
 pub record Counted (b new : List ℕ) (t : ℕ) : Type 0 where
   pub small : t ≤ 28
-  pub long : t + 6 ≤ length new
-  pub text : cutText b ≡ countLine t ++ sheetLine (take (t + 6) new)
+  pub long : t + shortest ≤ length new
+  pub text : cutText b ≡ countLine t ++ sheetLine (take (t + shortest) new)
 
-module _ (b old new : List ℕ) (a : Answer) (room : 34 ≤ length old) (p : SheetPromise b old new a) where
+module _ (b old new : List ℕ) (a : Answer) (room : longest ≤ length old) (p : SheetPromise b old new a) where
   module _ (z : fileRefusal b ≡ 0) where
     fits : length (fileSheet b) ≤ length old
     fits = let s = sheet-length b z in let k = count-small b z in omega arith
@@ -40,10 +41,10 @@ module _ (b old new : List ℕ) (a : Answer) (room : 34 ≤ length old) (p : She
     done : (t : ℕ) → t ≡ fileCount b → Counted b new t
     unfolding cutText
     done t e =
-        let s : length (fileSheet b) ≡ t + 6 = sheet-length b z ∙ ap (λ n. n + 6) (sym e) in
+        let s : length (fileSheet b) ≡ t + shortest = sheet-length b z ∙ ap (λ n. n + shortest) (sym e) in
         let k = count-small b z in
         let l = ap length buffer-is ∙ length-append (fileSheet b) (drop (length (fileSheet b)) old) in
-        let f : fileSheet b ≡ take (t + 6) new = sym (ap (take (t + 6)) buffer-is ∙ take-at (fileSheet b) (drop (length (fileSheet b)) old) (t + 6) s) in
+        let f : fileSheet b ≡ take (t + shortest) new = sym (ap (take (t + shortest)) buffer-is ∙ take-at (fileSheet b) (drop (length (fileSheet b)) old) (t + shortest) s) in
         record {
           small = omega arith;
           long = omega arith;

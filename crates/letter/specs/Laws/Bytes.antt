@@ -8,6 +8,7 @@ use native.Mathlib.Omega.{arith}
 use lib.Dec.{eqb, leb}
 use lib.ListN.{getD, length}
 use borrow.Author.Tests.{eqb-true, leb-true}
+use Rattle.clifford.specs.Laws.Columns.{columns-valid}
 use Rattle.clifford.specs.Columns.{rowOf, negated, isColumnByte, areColumnBytes, arePermutation}
 use Rattle.letter.specs.Composition.{imageOf, composed}
 use Rattle.letter.specs.Laws.Signed.{Axis, e1, e2, e3, e4, e5, e6, Column, col, Perm, perm, turned, apply, times, rowNumber, toByte, fromByte, bytes, fromBytes}
@@ -83,10 +84,6 @@ byte-in (b ∷ bs) v (suc k) h = byte-in bs (and-right (isColumnByte b) (areColu
 
 pub from-bytes : (g : Perm) → fromBytes (bytes g) ≡ g
 from-bytes (perm a b c d e f) = λ i. perm (from-to a i) (from-to b i) (from-to c i) (from-to d i) (from-to e i) (from-to f i)
-
-pub columns-valid : (bs : List ℕ) → arePermutation bs ≡ true → areColumnBytes bs ≡ true
-unfolding arePermutation
-columns-valid bs p = and-left (areColumnBytes bs) _ (and-right (eqb (length bs) 6) _ p)
 
 pub bytes-from : (bs : List ℕ) → arePermutation bs ≡ true → bytes (fromBytes bs) ≡ bs
 unfolding arePermutation

@@ -7,24 +7,24 @@ use Prim.Native.Nat.{ℕ, _+_, _*_, _-_, _<_, _≤_}
 use native.Mathlib.Nat.{zero-add}
 use native.Mathlib.Omega.{arith}
 use lib.ListN.{length, take, drop, replicate, length-map}
-use lib.Seq.{take-at, drop-at}
+use lib.Seq.{take-at}
 use Rattle.matrix.specs.Matrix.{entry}
 use Rattle.matrix.specs.Operator.{SameOperator}
-use Rattle.matrix.specs.Laws.Operator.{same-operator-sym, same-operator-trans}
 use Rattle.matrix.specs.Laws.Array.{least-form}
 use borrow.Author.Tests.{eq-eqb, ne-eqb, lt-ltb, le-ltb}
 use Rattle.file.specs.declared.Answer.{Answer}
 use Rattle.file.specs.declared.Answer.the-variants.{Count, Refused}
 use Rattle.file.specs.File.{written, largestExponent, fileExponent, fileMatrix, fileOperator}
-use Rattle.clifford.specs.Columns.{columnsMatrix, columnBytes, areColumnBytes}
-use Rattle.clifford.specs.Laws.Columns.{matrix-permutation, matrix-columns, permutation-complete}
-use Rattle.reduction.specs.Reduction.{remaining, sheet, normalForm, sheetNumbers, sheetColumns, sheetOperator}
-use Rattle.reduction.specs.Laws.NormalForm.{Cutting, cutting, normal-form-same, length-sheet}
+use Rattle.clifford.specs.Columns.{areColumnBytes}
+use Rattle.clifford.specs.Laws.Columns.{matrix-permutation, permutation-complete, columns-valid}
+use Rattle.reduction.specs.Reduction.{remaining}
+use Rattle.reduction.specs.Laws.NormalForm.{Cutting, cutting}
 use Rattle.letter.specs.Gate.{letter}
 use Rattle.letter.specs.Written.{Written}
-use Rattle.letter.specs.Laws.Bytes.{columns-valid}
 use Rattle.gate_list.specs.List.{gateList}
 use Rattle.gate_list.specs.Laws.List.{listOf, list-of}
+use Rattle.sheet_bytes.specs.Bytes.{shortest, sheetBytes, sheet, sheetOperator}
+use Rattle.sheet_bytes.specs.Laws.Sheet.{length-sheet, sheet-back}
 use Rattle.operator.specs.declared.Listed as listed
 use Rattle.acceptance.specs.declared.Cut.{Cut}
 use Rattle.acceptance.specs.Acceptance.{fileRefusal}
@@ -43,28 +43,12 @@ module _ (b : List ℕ) (z : fileRefusal b ≡ 0) where
   pub columns-bytes : areColumnBytes (fileColumns b) ≡ true
   columns-bytes = columns-valid (fileColumns b) (permutation-complete (fileColumns b) (matrix-permutation (entry (remaining (fileExponent b) (fileMatrix b))) (file-cutting .orthogonal)))
 
-  pub sheet-length : length (fileSheet b) ≡ fileCount b + 6
+  pub sheet-length : length (fileSheet b) ≡ fileCount b + shortest
   sheet-length = length-sheet (fileExponent b) (fileMatrix b) (accepted b z .entries .orthogonal)
 
-  -- a sheet's parts
-  before-columns : length (fileSheet b) - 6 ≡ fileCount b
-  before-columns = let l = sheet-length in omega arith
-
-  pub sheet-numbers : sheetNumbers (fileSheet b) ≡ fileNumbers b
-  unfolding sheet
-  sheet-numbers = ap (λ x. take x (fileSheet b)) before-columns ∙ take-at (fileNumbers b) (fileColumns b) (fileCount b) (file-cutting .exact)
-
-  pub sheet-columns : sheetColumns (fileSheet b) ≡ fileColumns b
-  unfolding sheet
-  sheet-columns = ap (λ x. drop x (fileSheet b)) before-columns ∙ drop-at (fileNumbers b) (fileColumns b) (fileCount b) (file-cutting .exact)
-
-  -- the sheet's generators in order times its Clifford are the operator
+  -- the sheet's generators in order, times its Clifford, times the sign are the operator
   pub sheet-multiplies : SameOperator (sheetOperator (fileSheet b)) (fileOperator b)
-  sheet-multiplies =
-      let C = entry (remaining (fileExponent b) (fileMatrix b)) in
-      subst (λ g. SameOperator (normalForm g (columnsMatrix (sheetColumns (fileSheet b)))) (fileOperator b)) (sym sheet-numbers)
-      (subst (λ c. SameOperator (normalForm (fileNumbers b) (columnsMatrix c)) (fileOperator b)) (sym sheet-columns)
-      (same-operator-trans (normal-form-same (fileNumbers b) (columnsMatrix (columnBytes C)) C (matrix-columns C (file-cutting .orthogonal))) (same-operator-sym (file-cutting .same))))
+  sheet-multiplies = sheet-back (fileExponent b) (fileMatrix b) (accepted b z .entries .orthogonal)
 
 -- what the code holds
 pub record Ready (b : List ℕ) (r : Cut) : Type 0 where
@@ -73,8 +57,8 @@ pub record Ready (b : List ℕ) (r : Cut) : Type 0 where
   pub small : r .count ≤ largestExponent
   pub numbers : take (r .count) (r .numbers) ≡ fileNumbers b
   pub columns : r .columns ≡ fileColumns b
-  pub bytes : take (r .count) (r .numbers) ++ r .columns ≡ fileSheet b
-  pub long : length (fileSheet b) ≡ r .count + 6
+  pub bytes : sheetBytes (take (r .count) (r .numbers)) (r .columns) ≡ fileSheet b
+  pub long : length (fileSheet b) ≡ r .count + shortest
 
 pub ready : (b : List ℕ) (r : Cut) → CutOf b r → r .refusal ≡ 0 → Ready b r
 unfolding sheet
@@ -89,8 +73,8 @@ ready b r c e =
       small = rw t (count-small b z);
       numbers = n;
       columns = c .columns z;
-      bytes = ap₂ (λ x y. x ++ y) n (c .columns z);
-      long = sheet-length b z ∙ ap (λ x. x + 6) (sym t);
+      bytes = ap₂ sheetBytes n (c .columns z);
+      long = sheet-length b z ∙ ap (λ x. x + shortest) (sym t);
     }
 
 -- ---- the ways out of the two calls, where the code holds r
@@ -115,7 +99,7 @@ module _ (b old : List ℕ) (r : Cut) (c : CutOf b r) where
       let t = ne-eqb (fileRefusal b) 0 (still-refused h) in
       sheet-as (rw t (ap Refused (c .refusal))) (rw t) (exactly-refused b (r .refusal) (c .refusal))
 
-  pub sheet-no-room : r .refusal ≡ 0 → length old < r .count + 6 → SheetPromise b old old (Refused 6)
+  pub sheet-no-room : r .refusal ≡ 0 → length old < r .count + shortest → SheetPromise b old old (Refused 6)
   unfolding sheetAnswer sheetBuffer
   sheet-no-room e h =
       let y = ready b r c e in
@@ -123,7 +107,7 @@ module _ (b old : List ℕ) (r : Cut) (c : CutOf b r) where
       let l = lt-ltb (length old) (length (fileSheet b)) (rw (y .long) h) in
       sheet-as (rw (t, l)) (rw (t, l)) (six (y .accepted))
 
-  pub sheet-done : (new : List ℕ) → r .refusal ≡ 0 → r .count + 6 ≤ length old → new ≡ written old (take (r .count) (r .numbers) ++ r .columns) → SheetPromise b old new (Count (r .count))
+  pub sheet-done : (new : List ℕ) → r .refusal ≡ 0 → r .count + shortest ≤ length old → new ≡ written old (sheetBytes (take (r .count) (r .numbers)) (r .columns)) → SheetPromise b old new (Count (r .count))
   unfolding sheetAnswer sheetBuffer
   sheet-done new e h n =
       let y = ready b r c e in

@@ -1,28 +1,28 @@
 -- The whole reduction of an orthogonal operator: exactly as many generators are taken as its least exponent says, a signed permutation remains,
--- and the generators in order times it are the operator. Two operators have one sheet exactly if they stand for the same matrix.
-use mathlib.Core.Path.{_≡_, refl, sym, ap, ap₂, _∙_, subst}
+-- and the generators in order times it are the operator.
+use mathlib.Core.Path.{_≡_, refl, sym, ap, _∙_, subst}
 use mathlib.Core.List.{List, [], _∷_, _++_}
 use Prim.Native.Nat.{ℕ, zero, suc, _+_, _*_, _<_, _≤_}
 use native.Mathlib.Nat.{mul-pos}
 use native.Mathlib.Omega.{arith}
 use lib.IntN.{ℤ, pos, _*ℤ_}
-use lib.ListN.{length, getD, take, drop, length-append}
-use lib.Seq.{take-at, drop-at}
+use lib.ListN.{length, getD}
 use lib.Signed.{_<ℤ_}
 use Rattle.matrix.specs.Integer.{Even}
-use Rattle.matrix.specs.Matrix.{Matrix, Same, entry}
+use Rattle.matrix.specs.Matrix.{Matrix, Same, scaled, entry}
 use Rattle.matrix.specs.Determinant.{det}
-use Rattle.matrix.specs.Operator.{operator, SameOperator, Orthogonal, Proper, LeastExponent, Reduced}
+use Rattle.matrix.specs.Operator.{operator, timesOperator, SameOperator, Orthogonal, Proper, LeastExponent, Reduced}
 use Rattle.matrix.specs.Array.{leastForm}
 use Rattle.matrix.specs.Laws.Integer.{*ℤ-unit-l, *ℤ-assoc, positive-of-times, times-positive}
-use Rattle.matrix.specs.Laws.Range.{length-tabulate}
+use Rattle.matrix.specs.Laws.Matrix.{same-refl, product-cong, product-scaled-r}
 use Rattle.matrix.specs.Laws.Determinant.{det-cong}
-use Rattle.matrix.specs.Laws.Operator.{same-operator-refl, same-operator-sym, same-operator-trans, same-operator-of, times-same, same-orthogonal, same-proper}
-use Rattle.matrix.specs.Laws.Array.{entry-listed, least-form, least-orthogonal, least-exponent, same-least-form}
-use Rattle.clifford.specs.Columns.{columnsMatrix, columnBytes, Clifford}
-use Rattle.clifford.specs.Laws.Columns.{matrix-columns, orthogonal-clifford}
+use Rattle.matrix.specs.Laws.Operator.{same-operator-refl, same-operator-sym, same-operator-trans, same-operator-of, times-same, times-orthogonal, same-orthogonal, same-proper}
+use Rattle.matrix.specs.Laws.Array.{entry-listed, least-form, least-orthogonal, least-exponent}
+use Rattle.clifford.specs.Columns.{Clifford}
+use Rattle.clifford.specs.Laws.Columns.{orthogonal-clifford}
 use Rattle.residue.specs.Generator.{generator}
-use Rattle.reduction.specs.Reduction.{cut, chosen, step, generators, remainder, count, taken, remaining, sheet, normalForm}
+use Rattle.residue.specs.Laws.Generator.{generator-orthogonal}
+use Rattle.reduction.specs.Reduction.{cut, chosen, step, generators, remainder, count, taken, remaining, normalForm}
 use Rattle.reduction.specs.Laws.Step.{one-step}
 
 -- generator numbers
@@ -109,10 +109,36 @@ reduce (suc k) m o r =
     number-at zero h a rest = a
     number-at (suc i) h a rest = rest i (omega arith)
 
-pub normal-form-same : (gs : List ℕ) (C D : Matrix) → Same 6 C D → SameOperator (normalForm gs C) (normalForm gs D)
+-- ---- generators times a matrix
+
+-- the exponent is the number of generators
+pub normal-exponent : (gs : List ℕ) (C : Matrix) → normalForm gs C .exponent ≡ length gs
 unfolding normalForm
-normal-form-same [] C D h = same-operator-of (operator 0 C) (operator 0 D) refl h
-normal-form-same (g ∷ gs) C D h = times-same (same-operator-refl (operator 1 (generator g))) (normal-form-same gs C D h)
+normal-exponent [] C = refl
+normal-exponent (g ∷ gs) C = let e = normal-exponent gs C in omega arith
+
+pub normal-orthogonal : (gs : List ℕ) (C : Matrix) → Numbers gs → Orthogonal (operator 0 C) → Orthogonal (normalForm gs C)
+unfolding normalForm
+normal-orthogonal [] C n o = o
+normal-orthogonal (g ∷ gs) C n o =
+    let h = n 0 (omega arith) in
+    times-orthogonal (generator-orthogonal g (h .0) (h .1)) (normal-orthogonal gs C (λ i u. n (suc i) (omega arith)) o)
+
+pub normal-cong : (gs : List ℕ) (C D : Matrix) → Same 6 C D → Same 6 (normalForm gs C .matrix) (normalForm gs D .matrix)
+unfolding normalForm
+normal-cong [] C D h = h
+normal-cong (g ∷ gs) C D h = product-cong (same-refl 6 (generator g)) (normal-cong gs C D h)
+
+pub normal-form-same : (gs : List ℕ) (C D : Matrix) → Same 6 C D → SameOperator (normalForm gs C) (normalForm gs D)
+normal-form-same gs C D h = same-operator-of (normalForm gs C) (normalForm gs D) (normal-exponent gs C ∙ sym (normal-exponent gs D)) (normal-cong gs C D h)
+
+-- a factor of the matrix is one of the whole
+pub normal-scaled : (gs : List ℕ) (c : ℤ) (C : Matrix) → normalForm gs (scaled c C) ≡ operator (normalForm gs C .exponent) (scaled c (normalForm gs C .matrix))
+unfolding normalForm
+normal-scaled [] c C = refl
+normal-scaled (g ∷ gs) c C =
+    ap (timesOperator (operator 1 (generator g))) (normal-scaled gs c C)
+    ∙ ap (operator (1 + normalForm gs C .exponent)) (product-scaled-r 6 c (generator g) (normalForm gs C .matrix))
 
 -- ---- of any orthogonal pair
 
@@ -143,32 +169,3 @@ cutting k m o =
       proper = λ q. same-proper (same-operator-sym (f .same)) (record { positive = subst (λ z. pos 0 <ℤ z) (sym e) (times-positive n (det 6 (entry (remaining k m))) p (q .positive)) });
       same = same-operator-trans (f .same) (t .same);
     }
-
--- ---- sheets
-
-pub length-sheet : (k : ℕ) (m : List ℤ) → Orthogonal (operator k (entry m)) → length (sheet k m) ≡ count k m + 6
-unfolding sheet
-length-sheet k m o = length-append (taken k m) (columnBytes (entry (remaining k m))) ∙ ap₂ (λ a b. a + b) (cutting k m o .exact) (length-tabulate _ 0 6)
-
-module _ (k l : ℕ) (m n : List ℤ) (hm : length m ≡ 36) (hn : length n ≡ 36) (o : Orthogonal (operator k (entry m))) (p : Orthogonal (operator l (entry n))) where
-  -- the same matrix, one sheet
-  pub same-sheet : SameOperator (operator k (entry m)) (operator l (entry n)) → sheet k m ≡ sheet l n
-  unfolding sheet
-  same-sheet h = ap (λ f. generators (f .exponent) (f .matrix) ++ columnBytes (entry (remainder (f .exponent) (f .matrix)))) (same-least-form k l m n hm hn o p h)
-
-  -- one sheet, the same matrix
-  pub sheet-same : sheet k m ≡ sheet l n → SameOperator (operator k (entry m)) (operator l (entry n))
-  unfolding sheet
-  sheet-same e =
-      let c = cutting k m o in
-      let d = cutting l n p in
-      let t : length (taken k m) ≡ length (taken l n) =
-      let a = c .exact in let b = d .exact in let x = length-sheet k m o in let y = length-sheet l n p in let z = ap length e in omega arith in
-      let gs : taken k m ≡ taken l n = sym (take-at (taken k m) _ (length (taken k m)) refl) ∙ ap (take (length (taken k m))) e ∙ take-at (taken l n) _ (length (taken k m)) (sym t) in
-      let bs : columnBytes (entry (remaining k m)) ≡ columnBytes (entry (remaining l n)) = sym (drop-at (taken k m) _ (length (taken k m)) refl) ∙ ap (drop (length (taken k m))) e ∙ drop-at (taken l n) _ (length (taken k m)) (sym t) in
-      same-operator-trans (c .same)
-      (same-operator-trans
-      (subst (λ x. SameOperator (normalForm (taken k m) (entry (remaining k m))) (normalForm x (entry (remaining l n)))) gs
-      (normal-form-same (taken k m) (entry (remaining k m)) (entry (remaining l n))
-      (λ i j hi hj. sym (matrix-columns (entry (remaining k m)) (c .orthogonal) i j hi hj) ∙ ap (λ x. columnsMatrix x i j) bs ∙ matrix-columns (entry (remaining l n)) (d .orthogonal) i j hi hj)))
-      (same-operator-sym (d .same)))

@@ -1,35 +1,39 @@
 -- A sheet that is written is read, and back; and what refusal 12 asks is to be a Clifford.
 use mathlib.Core.Path.{_≡_, refl, sym, ap, ap₂, _∙_, subst}
-use mathlib.Core.Bool.{true}
+use mathlib.Core.Bool.{Bool, true, false, cond}
 use mathlib.Core.List.{List}
 use Prim.Native.Nat.{ℕ, _-_, _≤_, _<_}
 use native.Mathlib.Omega.{arith}
-use lib.ListN.{length, getD, drop}
-use lib.Seq.{getD-take, drop-at}
+use lib.Dec.{ltb}
+use lib.ListN.{length, getD}
+use lib.Seq.{getD-take}
 use borrow.Author.Tests.{le-leb, le-ltb}
 use Rattle.matrix.specs.List.{sameList}
 use Rattle.matrix.specs.Matrix.{entry, listed}
 use Rattle.matrix.specs.Operator.{operator, Proper}
-use Rattle.matrix.specs.Laws.Test.{T-true, same-list-refl, and-left, and-right}
+use Rattle.matrix.specs.Laws.Test.{T-true, true-T, same-list-refl, and-left, and-right}
 use Rattle.matrix.specs.Laws.Range.{every-complete}
-use Rattle.matrix.specs.Laws.Operator.{same-operator-of, same-operator-sym, same-operator-trans, same-orthogonal, same-proper}
+use Rattle.matrix.specs.Laws.Operator.{same-operator-sym, same-operator-trans, same-orthogonal, same-proper}
 use Rattle.matrix.specs.Laws.Array.{listed-same, length-listed}
-use Rattle.clifford.specs.Columns.{columnsMatrix, columnBytes, isColumnByte, areColumnBytes, arePermutation, isEven, Clifford}
-use Rattle.clifford.specs.Laws.Columns.{matrix-permutation, matrix-columns, permutation-sound, permutation-complete, columns-orthogonal, orthogonal-permutation, orthogonal-clifford, clifford-orthogonal}
-use Rattle.sign.specs.Laws.Sign.{even-proper, proper-even}
+use Rattle.clifford.specs.Columns.{columnsMatrix, isColumnByte, isMinus, signed, arePermutation, isEven, Clifford}
+use Rattle.clifford.specs.Laws.Columns.{Permutation, permutation-sound, permutation-complete, columns-valid, columns-orthogonal, orthogonal-permutation, orthogonal-clifford, clifford-orthogonal}
+use Rattle.clifford.specs.Laws.Signed.{signed-permutation}
+use Rattle.sign.specs.Laws.Sign.{even-proper, proper-even, signed-even}
 use Rattle.file.specs.File.{fileExponent, fileMatrix, fileOperator}
 use Rattle.file.specs.Laws.File.{length-file, exponent-back, matrix-back, length-file-matrix, orthogonal-short}
-use Rattle.reduction.specs.Reduction.{count, taken, remaining, sheet, sheetOf, sheetColumns, sheetOperator}
-use Rattle.reduction.specs.Laws.NormalForm.{cutting, same-sheet}
+use Rattle.reduction.specs.Reduction.{taken}
 use Rattle.acceptance.specs.Acceptance.{fileRefusal, isProper}
-use Rattle.acceptance.specs.Cutting.{fileColumns}
+use Rattle.acceptance.specs.Cutting.{fileNumbers, fileColumns}
 use Rattle.operator.specs.Promise.{fileSheet}
 use Rattle.acceptance.specs.Laws.Acceptance as file
 use Rattle.acceptance.specs.Laws.Cutting.{even-is-proper}
-use Rattle.operator.specs.Laws.Promise.{file-cutting, count-small, columns-bytes, sheet-length, sheet-numbers, sheet-columns, sheet-multiplies}
-use Rattle.sheet_bytes.specs.Sheet.{shortest, longest, isNumber, areNumbers, isClifford, sheetRefusal, sheetLeast}
+use Rattle.operator.specs.Laws.Promise.{file-cutting, count-small, sheet-length, sheet-multiplies}
+use Rattle.sheet_bytes.specs.Bytes.{shortest, longest, signByte, sheet, sheetOf, sheetColumns, sheetSign, sheetOperator}
+use Rattle.sheet_bytes.specs.Sheet.{isNumber, areNumbers, isClifford, hasWrongSign, sheetRefusal, sheetLeast}
+use Rattle.sheet_bytes.specs.Laws.Bytes.{numbers-back, columns-back, sign-back, positive-first}
+use Rattle.sheet_bytes.specs.Laws.Sheet.{columnsLeft, left-permutation, same-sheet}
 use Rattle.sheet.specs.Promise.{sheetFile}
-use Rattle.sheet.specs.Laws.Sheet.{Accepted, sheet-orthogonal, sheet-same-least, sheet-exact, sheet-small, least-orthogonal-sheet, sheet-long, sheet-file}
+use Rattle.sheet.specs.Laws.Sheet.{Accepted, sheet-orthogonal, sheet-same-least, sheet-small, least-orthogonal-sheet, sheet-long, sheet-file}
 
 -- ---- six column bytes
 
@@ -46,20 +50,43 @@ clifford-complete bs l b c =
 -- ---- a file's sheet is read
 
 module _ (b : List ℕ) (z : fileRefusal b ≡ 0) where
+  columns-left : Permutation (fileColumns b)
+  columns-left = left-permutation (fileExponent b) (fileMatrix b) (file.accepted b z .entries .orthogonal)
+
+  -- the columns as they are written
+  abbrev written : List ℕ
+  written = signed (signByte (fileColumns b)) (fileColumns b)
+
+  columns-written : Permutation written
+  columns-written = signed-permutation (signByte (fileColumns b)) (fileColumns b) columns-left
+
   numbers-pass : areNumbers (fileSheet b) ≡ true
+  unfolding sheet
   numbers-pass =
-      every-complete (length (fileSheet b) - 6) (λ n. isNumber (getD (fileSheet b) n 0))
+      every-complete (length (fileSheet b) - shortest) (λ n. isNumber (getD (fileSheet b) n 0))
       (λ i h.
       let t = file-cutting b z .exact in
       let l = sheet-length b z in
       let g : (1 ≤ getD (fileSheet b) i 0) × (getD (fileSheet b) i 0 ≤ 15) =
-      subst (λ x. (1 ≤ x) × (x ≤ 15)) (ap (λ x. getD x i 0) (sym (sheet-numbers b z)) ∙ getD-take (length (fileSheet b) - 6) (fileSheet b) i 0 h) (file-cutting b z .numbers i (omega arith)) in
+      subst (λ x. (1 ≤ x) × (x ≤ 15)) (ap (λ x. getD x i 0) (sym (numbers-back (fileNumbers b) (fileColumns b) (columns-left .long))) ∙ getD-take (length (fileSheet b) - shortest) (fileSheet b) i 0 h) (file-cutting b z .numbers i (omega arith)) in
       rw (le-leb 1 (getD (fileSheet b) i 0) (g .0), le-leb (getD (fileSheet b) i 0) 15 (g .1)))
 
-  clifford-passes : isClifford (fileColumns b) ≡ true
+  clifford-passes : isClifford written ≡ true
   clifford-passes =
       let a = file.accepted b z .entries in
-      rw (permutation-complete (fileColumns b) (matrix-permutation (entry (remaining (fileExponent b) (fileMatrix b))) (file-cutting b z .orthogonal)), even-is-proper (fileExponent b) (fileMatrix b) (a .orthogonal), T-true (isProper (entry (fileMatrix b))) (a .proper .positive .lt))
+      rw (
+        permutation-complete written columns-written,
+        signed-even (signByte (fileColumns b)) (fileColumns b) columns-left,
+        even-is-proper (fileExponent b) (fileMatrix b) (a .orthogonal),
+        T-true (isProper (entry (fileMatrix b))) (a .proper .positive .lt),
+      )
+
+  sign-passes : hasWrongSign written (signByte (fileColumns b)) ≡ false
+  sign-passes = rw (small (isMinus (getD (fileColumns b) 0 0)), positive-first (fileColumns b) columns-left)
+    where
+      small : (t : Bool) → ltb 1 (cond t 1 0) ≡ false
+      small true = refl
+      small false = refl
 
   again : sheetOf (sheetOperator (fileSheet b)) ≡ fileSheet b
   again =
@@ -69,14 +96,24 @@ module _ (b : List ℕ) (z : fileRefusal b ≡ 0) where
       same-sheet (A .exponent) (fileExponent b) (listed (A .matrix)) (fileMatrix b) (length-listed (A .matrix)) (length-file-matrix b) (same-orthogonal (same-operator-sym s) (a .orthogonal)) (a .orthogonal) s
 
   pub file-sheet-read : sheetRefusal (fileSheet b) ≡ 0
-  unfolding sheetRefusal
+  unfolding sheetRefusal sheet
   file-sheet-read =
       let l = sheet-length b z in
       let u = count-small b z in
-      let bytes : areColumnBytes (sheetColumns (fileSheet b)) ≡ true = rw (sheet-columns b z) (columns-bytes b z) in
-      let clifford : isClifford (sheetColumns (fileSheet b)) ≡ true = rw (sheet-columns b z) clifford-passes in
+      let columns : sheetColumns (fileSheet b) ≡ written = columns-back (fileNumbers b) (fileColumns b) (columns-left .long) in
+      let sign : sheetSign (fileSheet b) ≡ signByte (fileColumns b) = sign-back (fileNumbers b) (fileColumns b) (columns-left .long) in
       let same : sameList (sheetOf (sheetOperator (fileSheet b))) (fileSheet b) ≡ true = subst (λ x. sameList x (fileSheet b) ≡ true) (sym again) (same-list-refl (fileSheet b)) in
-      rw (le-ltb (length (fileSheet b)) shortest (omega arith), le-ltb longest (length (fileSheet b)) (omega arith), numbers-pass, bytes, clifford, same)
+      rw (
+        le-ltb (length (fileSheet b)) shortest (omega arith),
+        le-ltb longest (length (fileSheet b)) (omega arith),
+        numbers-pass,
+        same,
+        columns,
+        sign,
+        columns-valid written (permutation-complete written columns-written),
+        clifford-passes,
+        sign-passes,
+      )
 
 -- ---- a sheet's file is cut into the sheet
 
@@ -87,18 +124,17 @@ module _ (s : List ℕ) (a : Accepted s) where
   exponent-read : fileExponent (sheetFile s) ≡ sheetLeast s .exponent
   exponent-read = exponent-back (sheetLeast s .exponent) (sheetLeast s .matrix)
 
-  -- the sign of the sheet's Clifford is that of its operator
+  -- the sign of the determinant of the sheet's Clifford is that of its operator's
   sheet-proper : Proper (sheetOperator s)
-  unfolding sheet sheetLeast
+  unfolding sheet
   sheet-proper =
       let A = sheetOperator s in
+      let m = listed (A .matrix) in
       let o = sheet-orthogonal s (a .form) in
-      let C = remaining (A .exponent) (listed (A .matrix)) in
-      let k = cutting (A .exponent) (listed (A .matrix)) o in
-      let n : length (taken (A .exponent) (listed (A .matrix))) ≡ length s - 6 = let e = k .exact in let l = sheet-exact s a in let x : count (A .exponent) (listed (A .matrix)) ≡ sheetLeast s .exponent = refl in omega arith in
-      let columns : columnBytes (entry C) ≡ sheetColumns s = sym (drop-at (taken (A .exponent) (listed (A .matrix))) (columnBytes (entry C)) (length s - 6) n) ∙ ap (drop (length s - 6)) (a .again) in
-      let even : Proper (operator 0 (columnsMatrix (columnBytes (entry C)))) = subst (λ x. Proper (operator 0 (columnsMatrix x))) (sym columns) (even-proper (sheetColumns s) (permutation-sound (sheetColumns s) (a .form .permutation)) (a .form .even)) in
-      same-proper (same-operator-sym (listed-same A)) (k .proper (same-proper (same-operator-of (operator 0 (columnsMatrix (columnBytes (entry C)))) (operator 0 (entry C)) refl (matrix-columns (entry C) (k .orthogonal))) even))
+      let bs = columnsLeft (A .exponent) m in
+      let p = left-permutation (A .exponent) m o in
+      let even : isEven bs ≡ true = sym (signed-even (signByte bs) bs p) ∙ ap isEven (sym (columns-back (taken (A .exponent) m) bs (p .long)) ∙ ap sheetColumns (a .again)) ∙ a .form .even in
+      same-proper (same-operator-sym (listed-same A)) (record { positive = record { lt = true-T (sym (even-is-proper (A .exponent) m o) ∙ even) } })
 
   pub sheet-file-accepted : fileRefusal (sheetFile s) ≡ 0
   sheet-file-accepted =

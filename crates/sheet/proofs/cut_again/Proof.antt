@@ -3,7 +3,7 @@ use mathlib.Core.Path.{_≡_, sym, ap, ap₂, _∙_, subst}
 use Prim.Native.Nat.{ℕ, _-_, _≤_}
 use native.Mathlib.Omega.{arith}
 use mathlib.Core.Bool.{Bool, true, false, not}
-use mathlib.Core.List.{List, _++_}
+use mathlib.Core.List.{List}
 use lib.Dec.{T}
 use lib.IntN.{ℤ}
 use lib.ListN.{take, replicate}
@@ -18,10 +18,11 @@ use Rattle.matrix.specs.Laws.Test.{true-T}
 use Rattle.matrix.specs.Laws.Array.{least-form}
 use Rattle.clifford.specs.Columns.{columnBytes}
 use Rattle.reduction.specs.declared.Normal.{Normal}
-use Rattle.reduction.specs.Reduction.{count, taken, sheet}
+use Rattle.reduction.specs.Reduction.{count, taken}
 use Rattle.reduction.specs.Result.{WholeOf}
 use Rattle.reduction.specs.Laws.NormalForm.{cutting}
 use Rattle.file.specs.declared.Read.{Read}
+use Rattle.sheet_bytes.specs.Bytes.{sheetBytes, sheet}
 use Rattle.sheet.specs.Promise.{CutAgain}
 use borrow.Author.Needs.{needs}
 use borrow.Author.Tests.{not-true, not-false}
@@ -32,11 +33,11 @@ module _ (s : List ℕ) (k : ℕ) (m : List ℤ) (o : Orthogonal (operator k (en
   small : k ≤ 28 → f .count ≤ 60
   small h = rw (w .count) (let b = least-form k m .below in omega arith)
 
-  module _ (cs : List ℕ) (c : cs ≡ columnBytes (entry (f .matrix))) (t : Bool) (e : t ≡ sameList (take (f .count) (f .numbers) ++ cs) s) where
-    held : take (f .count) (f .numbers) ++ cs ≡ sheet k m
+  module _ (cs : List ℕ) (c : cs ≡ columnBytes (entry (f .matrix))) (t : Bool) (e : t ≡ sameList (sheetBytes (take (f .count) (f .numbers)) cs) s) where
+    held : sheetBytes (take (f .count) (f .numbers)) cs ≡ sheet k m
     unfolding sheet
     held =
-        ap₂ (λ x y. x ++ y) (ap₂ take (w .count) (w .numbers) ∙ take-at (taken k m) (replicate (60 - count k m) 0) (count k m) (cutting k m o .exact)) (c ∙ ap (λ x. columnBytes (entry x)) (w .matrix))
+        ap₂ sheetBytes (ap₂ take (w .count) (w .numbers) ∙ take-at (taken k m) (replicate (60 - count k m) 0) (count k m) (cutting k m o .exact)) (c ∙ ap (λ x. columnBytes (entry x)) (w .matrix))
 
     test : sameList (sheet k m) s ≡ t
     test = sym (e ∙ ap (λ x. sameList x s) held)

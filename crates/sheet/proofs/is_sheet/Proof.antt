@@ -5,21 +5,23 @@ use native.Mathlib.Decide.{ℕ-discrete}
 use native.Mathlib.Omega.{arith}
 use mathlib.Core.Bool.{Bool, true, false}
 use mathlib.Core.Logic.{_≢_}
-use mathlib.Core.List.{List, _++_}
-use lib.ListN.{length, getD, take, length-append}
+use mathlib.Core.List.{List}
+use lib.ListN.{length, getD, take}
 use lib.Seq.{ext-getD, length-take-le}
 use denote.Ref.{now}
 use Rattle.matrix.specs.List.{sameList}
 use Rattle.matrix.specs.Laws.Test.{same-list, same-list-refl}
+use Rattle.sheet_bytes.specs.Bytes.{shortest, sheetBytes}
+use Rattle.sheet_bytes.specs.Laws.Bytes.{length-bytes}
 use borrow.Author.Needs.{needs}
 use Rattle.sheet.proofs.is_sheet.Statement.{statement}
 use Rattle.sheet.proofs.is_sheet.Tie as tie
 
 abbrev sheet-of : ℕ → List ℕ → List ℕ → List ℕ
-sheet-of count numbers columns = take count numbers ++ columns
+sheet-of count numbers columns = sheetBytes (take count numbers) columns
 
-sheet-long : (count : ℕ) (numbers columns : List ℕ) → count ≤ 60 → length numbers ≡ 60 → length columns ≡ 6 → length (sheet-of count numbers columns) ≡ count + 6
-sheet-long count numbers columns h l m = let a = length-append (take count numbers) columns in let b = length-take-le count numbers (omega arith) in omega arith
+sheet-long : (count : ℕ) (numbers columns : List ℕ) → count ≤ 60 → length numbers ≡ 60 → length columns ≡ 6 → length (sheet-of count numbers columns) ≡ count + shortest
+sheet-long count numbers columns h l m = let a = length-bytes (take count numbers) columns m in let b = length-take-le count numbers (omega arith) in omega arith
 
 -- lists that differ
 not-same : (xs ys : List ℕ) → xs ≢ ys → false ≡ sameList xs ys
@@ -42,7 +44,7 @@ equal : (xs ys : List ℕ) → length xs ≡ length ys → ((i : ℕ) → i < le
 equal xs ys l h = sym (subst (λ y. sameList xs y ≡ true) (ext-getD 0 xs ys l (λ i u. h i (omega arith))) (same-list-refl xs))
 
 abbrev Inv-loop : tie.InvT-loop
-Inv-loop bytes count numbers columns n₀ n = (length bytes ≡ count + 6) × (n ≤ length bytes) × ((i : ℕ) → i < n → getD (sheet-of count numbers columns) i 0 ≡ getD bytes i 0)
+Inv-loop bytes count numbers columns n₀ n = (length bytes ≡ count + shortest) × (n ≤ length bytes) × ((i : ℕ) → i < n → getD (sheet-of count numbers columns) i 0 ≡ getD bytes i 0)
 
 abbrev μ-loop : tie.MeasureT-loop
 μ-loop bytes count numbers columns n₀ n = length bytes - n

@@ -10,12 +10,13 @@ use lib.IntN.{ℤ}
 use lib.ListN.{length}
 use Rattle.matrix.specs.Matrix.{entry, listed}
 use Rattle.matrix.specs.Operator.{operator, Orthogonal}
-use Rattle.clifford.specs.Columns.{columnsMatrix}
-use Rattle.reduction.specs.Reduction.{normalForm, sheetNumbers, sheetColumns, sheetOperator}
+use Rattle.clifford.specs.Columns.{columnsMatrix, signed}
+use Rattle.reduction.specs.Reduction.{normalForm}
 use Rattle.file.specs.declared.Read.{Read}
+use Rattle.sheet_bytes.specs.Bytes.{shortest, sheetNumbers, sheetColumns, sheetSign, sheetOperator}
 use Rattle.sheet_bytes.specs.Sheet.{bytesRefusal, sheetRefusal, sheetLeast}
 use Rattle.sheet.specs.Promise.{CutAgain, SheetRead}
-use Rattle.sheet.specs.Laws.Sheet.{InForm, in-form, in-form-refusal, out-of-form, sheet-exponent, sheet-orthogonal, same-again}
+use Rattle.sheet.specs.Laws.Sheet.{InForm, in-form, in-form-refusal, out-of-form, sheet-exponent, signed-columns, sheet-matrix, sheet-orthogonal, same-again}
 use Rattle.sheet.proofs.read_sheet.Statement.{statement}
 use Rattle.sheet.proofs.read_sheet.Tie as tie
 
@@ -25,15 +26,15 @@ turned-away s r h e =
     let z = out-of-form s _ h in
     record { refusal = e ∙ sym z; exponent = λ y. absurd (h (sym z ∙ y)); matrix = λ y. absurd (h (sym z ∙ y)) }
 
--- m being the product of the sheet's generators and its Clifford
-module _ (s : List ℕ) (f : InForm s) (bs : List ℕ) (b : bs ≡ sheetColumns s) (m : List ℤ) (q : m ≡ listed (normalForm (sheetNumbers s) (columnsMatrix bs) .matrix)) where
+-- m being the product of the sheet's generators and its Clifford, times the sign
+module _ (s : List ℕ) (f : InForm s) (bs : List ℕ) (b : bs ≡ signed (sheetSign s) (sheetColumns s)) (m : List ℤ) (q : m ≡ listed (normalForm (sheetNumbers s) (columnsMatrix bs) .matrix)) where
   matrix-is : m ≡ listed (sheetOperator s .matrix)
-  matrix-is = q ∙ ap (λ x. listed (normalForm (sheetNumbers s) (columnsMatrix x) .matrix)) b
+  matrix-is = q ∙ ap (λ x. listed (normalForm (sheetNumbers s) (columnsMatrix x) .matrix)) b ∙ sheet-matrix s f
 
-  orthogonal : Orthogonal (operator (length s - 6) (entry m))
+  orthogonal : Orthogonal (operator (length s - shortest) (entry m))
   orthogonal = subst (λ k. Orthogonal (operator k (entry m))) (sheet-exponent s f) (rw matrix-is (sheet-orthogonal s f))
 
-  taken-in : (r : Read) → CutAgain s (length s - 6) m r → SheetRead s r
+  taken-in : (r : Read) → CutAgain s (length s - shortest) m r → SheetRead s r
   unfolding sheetRefusal sheetLeast
   taken-in r a =
       let z = in-form-refusal s _ f in
@@ -58,22 +59,28 @@ returns c =
 sub-count : tie.Need-sub-count
 sub-count c = let f = formed c in omega arith
 
+sub-columns-from : tie.Need-sub-columns-from
+sub-columns-from c = let f = formed c in omega arith
+
+shared-slice-read-columns-from : tie.Need-shared-slice-read-columns-from
+shared-slice-read-columns-from c = let f = formed (c .before) in omega arith
+
 columns-from-requires : tie.Need-columns-from-requires
-columns-from-requires c κs = let f = formed c in omega arith
+columns-from-requires c κs = let f = formed (c .before) in omega arith
 
 multiplied-requires : tie.Need-multiplied-requires
-multiplied-requires c κs = let f = formed (c .before) in (omega arith, omega arith, f .numbers, rw (c .columns-from .ensures) (f .permutation))
+multiplied-requires c κs = let f = formed (c .before .before) in (omega arith, omega arith, f .numbers, rw (c .columns-from .ensures) (signed-columns _ f))
 
 cast-cut-again : tie.Need-cast-cut-again
-cast-cut-again c = let f = formed (c .before .before) in omega arith
+cast-cut-again c = let f = formed (c .before .before .before) in omega arith
 
 cut-again-requires : tie.Need-cut-again-requires
 cut-again-requires c κs =
-    let f = formed (c .before .before) in
+    let f = formed (c .before .before .before) in
     (omega arith, orthogonal _ f _ (c .before .columns-from .ensures) _ (c .multiplied .ensures))
 
 returns-2 : tie.Need-returns-2
-returns-2 c = taken-in _ (formed (c .before .before .before)) _ (c .before .before .columns-from .ensures) _ (c .before .multiplied .ensures) _ (c .cut-again .ensures)
+returns-2 c = taken-in _ (formed (c .before .before .before .before)) _ (c .before .before .columns-from .ensures) _ (c .before .multiplied .ensures) _ (c .cut-again .ensures)
 
 pub read-sheet-spec : {M : Type 1} → statement M
 read-sheet-spec =
@@ -83,6 +90,8 @@ read-sheet-spec =
     refused-requires
     returns
     sub-count
+    sub-columns-from
+    shared-slice-read-columns-from
     columns-from-requires
     multiplied-requires
     cast-cut-again

@@ -11,7 +11,7 @@ use Rattle.file.specs.declared.Answer.the-variants.{Count, Refused}
 use Rattle.file.specs.File.{fileLength, fileOf, written, Short}
 use Rattle.file.specs.Laws.File.{exponent-back, orthogonal-short}
 use Rattle.file.specs.declared.Read.{Read}
-use Rattle.reduction.specs.Reduction.{sheetOperator}
+use Rattle.sheet_bytes.specs.Bytes.{sheetOperator}
 use Rattle.sheet_bytes.specs.Sheet.{sheetRefusal, sheetLeast}
 use Rattle.sheet.specs.Promise.{SheetRead, operatorAnswer, operatorBuffer, OperatorPromise}
 use Rattle.sheet.specs.Laws.Sheet.{accepted, sheet-same-least, sheet-least, sheet-exact, sheet-small, least-orthogonal-sheet, sheet-file}

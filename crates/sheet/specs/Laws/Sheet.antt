@@ -1,29 +1,32 @@
--- What a sheet that earns no refusal says, and the operator of generator numbers and a Clifford.
+-- What a sheet that earns no refusal says.
 use mathlib.Core.Path.{_≡_, refl, sym, ap, _∙_}
 use mathlib.Core.Bool.{Bool, true, false, not, cond, _&&_, _||_}
-use mathlib.Core.List.{List, [], _∷_}
+use mathlib.Core.List.{List}
 use mathlib.Core.Logic.{_≢_}
-use Prim.Native.Nat.{ℕ, suc, _+_, _-_, _≤_, _<_}
+use Prim.Native.Nat.{ℕ, _+_, _-_, _≤_, _<_}
 use native.Mathlib.Omega.{arith}
 use lib.Dec.{leb, ltb}
 use lib.ListN.{length, getD, take}
 use lib.Seq.{length-take-le, getD-take}
 use borrow.Author.Tests.{leb-true, ltb-false, le-ltb}
 use Rattle.matrix.specs.Range.{every}
-use Rattle.matrix.specs.Matrix.{Matrix, entry, listed}
+use Rattle.matrix.specs.Matrix.{entry, listed}
 use Rattle.matrix.specs.Operator.{operator, SameOperator, Orthogonal, LeastExponent}
 use Rattle.matrix.specs.Laws.Test.{and-left, and-right, same-list}
 use Rattle.matrix.specs.Laws.Range.{every-sound}
-use Rattle.matrix.specs.Laws.Operator.{same-operator-sym, same-operator-trans, times-orthogonal, same-orthogonal, least-same}
-use Rattle.matrix.specs.Laws.Array.{operatorOf, listed-same, length-listed, least-form, least-orthogonal, least-exponent}
-use Rattle.clifford.specs.Columns.{columnsMatrix, areColumnBytes, arePermutation, isEven}
-use Rattle.clifford.specs.Laws.Columns.{permutation-sound, columns-orthogonal}
-use Rattle.residue.specs.Laws.Generator.{generator-orthogonal}
+use Rattle.matrix.specs.Laws.Operator.{same-operator-sym, same-operator-trans, same-orthogonal, least-same}
+use Rattle.matrix.specs.Laws.Array.{operatorOf, listed-cong, listed-same, length-listed, least-form, least-orthogonal, least-exponent}
+use Rattle.clifford.specs.Columns.{columnsMatrix, signed, areColumnBytes, arePermutation, isEven}
+use Rattle.clifford.specs.Laws.Columns.{Permutation, permutation-sound, permutation-complete, columns-orthogonal}
+use Rattle.clifford.specs.Laws.Signed.{signed-permutation}
 use Rattle.file.specs.File.{fileOperator}
 use Rattle.file.specs.Laws.File.{operator-back}
-use Rattle.reduction.specs.Reduction.{sheetOf, normalForm, sheetNumbers, sheetColumns, sheetOperator}
-use Rattle.reduction.specs.Laws.NormalForm.{Numbers, length-sheet}
-use Rattle.sheet_bytes.specs.Sheet.{shortest, longest, isNumber, areNumbers, isClifford, bytesRefusal, sheetRefusal, sheetLeast}
+use Rattle.reduction.specs.Reduction.{normalForm}
+use Rattle.reduction.specs.Laws.NormalForm.{Numbers, normal-exponent, normal-orthogonal}
+use Rattle.sheet_bytes.specs.Bytes.{shortest, longest, sheetOf, sheetNumbers, sheetColumns, sheetSign, sheetOperator}
+use Rattle.sheet_bytes.specs.Sheet.{isNumber, areNumbers, isClifford, hasWrongSign, bytesRefusal, sheetRefusal, sheetLeast}
+use Rattle.sheet_bytes.specs.Laws.Bytes.{sign-taken-in, times-sign}
+use Rattle.sheet_bytes.specs.Laws.Sheet.{length-sheet}
 use Rattle.sheet.specs.Promise.{sheetFile}
 
 -- bytes that pass the test are generator numbers
@@ -38,19 +41,6 @@ front-numbers s t h e i u =
     let l : i < t = let x = length-take-le t s h in omega arith in
     rw (getD-take t s i 0 l) (numbers-sound s t h e i l)
 
--- generators times a Clifford: the exponent is their number, and the operator is orthogonal
-pub normal-exponent : (gs : List ℕ) (C : Matrix) → normalForm gs C .exponent ≡ length gs
-unfolding normalForm
-normal-exponent [] C = refl
-normal-exponent (g ∷ gs) C = let e = normal-exponent gs C in omega arith
-
-pub normal-orthogonal : (gs : List ℕ) (C : Matrix) → Numbers gs → Orthogonal (operator 0 C) → Orthogonal (normalForm gs C)
-unfolding normalForm
-normal-orthogonal [] C n o = o
-normal-orthogonal (g ∷ gs) C n o =
-    let h = n 0 (omega arith) in
-    times-orthogonal (generator-orthogonal g (h .0) (h .1)) (normal-orthogonal gs C (λ i u. n (suc i) (omega arith)) o)
-
 -- ---- bytes that pass the tests
 
 pub record InForm (s : List ℕ) : Type 0 where
@@ -60,53 +50,70 @@ pub record InForm (s : List ℕ) : Type 0 where
   pub columns : areColumnBytes (sheetColumns s) ≡ true
   pub permutation : arePermutation (sheetColumns s) ≡ true
   pub even : isEven (sheetColumns s) ≡ true
+  pub sign : hasWrongSign (sheetColumns s) (sheetSign s) ≡ false
 
 pub in-form : (s : List ℕ) (n : ℕ) → bytesRefusal s n ≡ 0 → InForm s
 in-form s n e =
-    go (ltb (length s) shortest) refl (ltb longest (length s)) refl (areNumbers s && areColumnBytes (sheetColumns s)) refl (isClifford (sheetColumns s)) refl e
+    go (ltb (length s) shortest) refl (ltb longest (length s)) refl (areNumbers s && areColumnBytes (sheetColumns s)) refl (isClifford (sheetColumns s)) refl (hasWrongSign (sheetColumns s) (sheetSign s)) refl e
   where
     go : (a : Bool) → ltb (length s) shortest ≡ a → (b : Bool) → ltb longest (length s) ≡ b → (c : Bool) → (areNumbers s && areColumnBytes (sheetColumns s)) ≡ c → (d : Bool) → isClifford (sheetColumns s) ≡ d
-        → _≡_ {A = ℕ} (cond (a || b) 10 (cond (not c) 11 (cond (not d) 12 n))) 0 → InForm s
-    go true p b q c r d x e = absurd (omega arith)
-    go false p true q c r d x e = absurd (omega arith)
-    go false p false q false r d x e = absurd (omega arith)
-    go false p false q true r false x e = absurd (omega arith)
-    go false p false q true r true x e = record {
+        → (f : Bool) → hasWrongSign (sheetColumns s) (sheetSign s) ≡ f → _≡_ {A = ℕ} (cond (a || b) 10 (cond (not c) 11 (cond (not d) 12 (cond f 15 n)))) 0 → InForm s
+    go true p b q c r d x f y e = absurd (omega arith)
+    go false p true q c r d x f y e = absurd (omega arith)
+    go false p false q false r d x f y e = absurd (omega arith)
+    go false p false q true r false x f y e = absurd (omega arith)
+    go false p false q true r true x true y e = absurd (omega arith)
+    go false p false q true r true x false y e = record {
       long = ltb-false _ _ p;
       short = ltb-false _ _ q;
       numbers = and-left (areNumbers s) (areColumnBytes (sheetColumns s)) r;
       columns = and-right (areNumbers s) (areColumnBytes (sheetColumns s)) r;
       permutation = and-left (arePermutation (sheetColumns s)) (isEven (sheetColumns s)) x;
       even = and-right (arePermutation (sheetColumns s)) (isEven (sheetColumns s)) x;
+      sign = y;
     }
 
 -- what follows the tests decides for them
 pub in-form-refusal : (s : List ℕ) (n : ℕ) → InForm s → bytesRefusal s n ≡ n
-in-form-refusal s n f = rw (le-ltb _ _ (f .long), le-ltb _ _ (f .short), f .numbers, f .columns, f .permutation, f .even)
+in-form-refusal s n f = rw (le-ltb _ _ (f .long), le-ltb _ _ (f .short), f .numbers, f .columns, f .permutation, f .even, f .sign)
 
 -- and for no others
 pub out-of-form : (s : List ℕ) (n : ℕ) → bytesRefusal s 0 ≢ 0 → bytesRefusal s n ≡ bytesRefusal s 0
-out-of-form s n h = go (ltb (length s) shortest || ltb longest (length s)) (areNumbers s && areColumnBytes (sheetColumns s)) (isClifford (sheetColumns s)) h
+out-of-form s n h = go (ltb (length s) shortest || ltb longest (length s)) (areNumbers s && areColumnBytes (sheetColumns s)) (isClifford (sheetColumns s)) (hasWrongSign (sheetColumns s) (sheetSign s)) h
   where
-    tests : Bool → Bool → Bool → ℕ → ℕ
-    tests a b c n = cond a 10 (cond (not b) 11 (cond (not c) 12 n))
+    tests : Bool → Bool → Bool → Bool → ℕ → ℕ
+    tests a b c d n = cond a 10 (cond (not b) 11 (cond (not c) 12 (cond d 15 n)))
 
-    go : (a b c : Bool) → tests a b c 0 ≢ 0 → tests a b c n ≡ tests a b c 0
-    go true b c h = refl
-    go false false c h = refl
-    go false true false h = refl
-    go false true true h = absurd (h refl)
+    go : (a b c d : Bool) → tests a b c d 0 ≢ 0 → tests a b c d n ≡ tests a b c d 0
+    go true b c d h = refl
+    go false false c d h = refl
+    go false true false d h = refl
+    go false true true true h = refl
+    go false true true false h = absurd (h refl)
 
 module _ (s : List ℕ) (f : InForm s) where
   -- it has as many generators as bytes before the columns
-  pub sheet-exponent : sheetOperator s .exponent ≡ length s - 6
-  sheet-exponent = normal-exponent (sheetNumbers s) (columnsMatrix (sheetColumns s)) ∙ length-take-le (length s - 6) s (omega arith)
+  pub sheet-exponent : sheetOperator s .exponent ≡ length s - shortest
+  sheet-exponent = normal-exponent (sheetNumbers s) (columnsMatrix (sheetColumns s)) ∙ length-take-le (length s - shortest) s (omega arith)
+
+  columns-permutation : Permutation (sheetColumns s)
+  columns-permutation = permutation-sound (sheetColumns s) (f .permutation)
+
+  -- the code multiplies the generators with the columns times the sign
+  pub signed-columns : arePermutation (signed (sheetSign s) (sheetColumns s)) ≡ true
+  signed-columns = permutation-complete (signed (sheetSign s) (sheetColumns s)) (signed-permutation (sheetSign s) (sheetColumns s) columns-permutation)
+
+  pub sheet-matrix : listed (normalForm (sheetNumbers s) (columnsMatrix (signed (sheetSign s) (sheetColumns s))) .matrix) ≡ listed (sheetOperator s .matrix)
+  sheet-matrix =
+      listed-cong (normalForm (sheetNumbers s) (columnsMatrix (signed (sheetSign s) (sheetColumns s))) .matrix) (sheetOperator s .matrix)
+      (λ i j hi hj. sym (sign-taken-in (sheetSign s) (sheetNumbers s) (sheetColumns s) columns-permutation i j hi hj))
 
   pub sheet-orthogonal : Orthogonal (operator (sheetOperator s .exponent) (entry (listed (sheetOperator s .matrix))))
   sheet-orthogonal =
-      same-orthogonal (listed-same (sheetOperator s))
-      (normal-orthogonal (sheetNumbers s) (columnsMatrix (sheetColumns s)) (front-numbers s (length s - 6) (omega arith) (f .numbers))
-      (columns-orthogonal (sheetColumns s) (permutation-sound (sheetColumns s) (f .permutation))))
+      let bs = signed (sheetSign s) (sheetColumns s) in
+      same-orthogonal (same-operator-trans (same-operator-sym (times-sign (sheetSign s) (sheetNumbers s) (sheetColumns s) columns-permutation)) (listed-same (sheetOperator s)))
+      (normal-orthogonal (sheetNumbers s) (columnsMatrix bs) (front-numbers s (length s - shortest) (omega arith) (f .numbers))
+      (columns-orthogonal bs (signed-permutation (sheetSign s) (sheetColumns s) columns-permutation)))
 
 -- ---- a sheet that earns no refusal
 
@@ -140,7 +147,7 @@ module _ (s : List ℕ) (a : Accepted s) where
   sheet-least = least-same (same-operator-sym (listed-same (sheetOperator s))) (least-exponent (sheetOperator s .exponent) (listed (sheetOperator s .matrix)) (sheet-orthogonal s (a .form)))
 
   -- a sheet has as many generators as its count says
-  pub sheet-exact : length s ≡ sheetLeast s .exponent + 6
+  pub sheet-exact : length s ≡ sheetLeast s .exponent + shortest
   unfolding sheetLeast
   sheet-exact = sym (ap length (a .again)) ∙ length-sheet (sheetOperator s .exponent) (listed (sheetOperator s .matrix)) (sheet-orthogonal s (a .form))
 

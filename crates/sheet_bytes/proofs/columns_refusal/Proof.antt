@@ -5,6 +5,7 @@ use lib.ListN.{length}
 use borrow.Author.Needs.{needs}
 use borrow.Author.Tests.{eq-eqb, not-true, not-false}
 use Rattle.clifford.specs.Columns.{areColumnBytes, arePermutation}
+use Rattle.sheet_bytes.specs.Sheet.{isClifford}
 use Rattle.sheet_bytes.proofs.columns_refusal.Statement.{statement}
 use Rattle.sheet_bytes.proofs.columns_refusal.Tie as tie
 
@@ -37,10 +38,20 @@ returns-3 c =
     let rows = c .before .before in
     rw (bytes (rows .before .before), permutation (rows .before) (not-false _ (rows .if2 .left)), sym (c .before .is-even .ensures) ∙ not-true _ (c .if3 .taken))
 
-returns-4 : tie.Need-returns-4
-returns-4 c =
+-- behind the first three tests
+clifford : (c : tie.Else3) → isClifford (c .before .before .before .before .before .before .args .columns) ≡ true
+clifford c =
     let rows = c .before .before in
-    rw (bytes (rows .before .before), permutation (rows .before) (not-false _ (rows .if2 .left)), sym (c .before .is-even .ensures) ∙ not-false _ (c .if3 .left))
+    rw (permutation (rows .before) (not-false _ (rows .if2 .left)), sym (c .before .is-even .ensures) ∙ not-false _ (c .if3 .left))
+
+has-wrong-sign-requires : tie.Need-has-wrong-sign-requires
+has-wrong-sign-requires c κs = search needs
+
+returns-4 : tie.Need-returns-4
+returns-4 c = rw (bytes (c .before .before .before .before .before .before), clifford (c .before .before), sym (c .before .has-wrong-sign .ensures) ∙ c .if4 .taken)
+
+returns-5 : tie.Need-returns-5
+returns-5 c = rw (bytes (c .before .before .before .before .before .before), clifford (c .before .before), sym (c .before .has-wrong-sign .ensures) ∙ c .if4 .left)
 
 pub columns-refusal-spec : {M : Type 1} → statement M
 columns-refusal-spec =
@@ -52,4 +63,6 @@ columns-refusal-spec =
     returns-2
     is-even-requires
     returns-3
-    returns-4)
+    has-wrong-sign-requires
+    returns-4
+    returns-5)

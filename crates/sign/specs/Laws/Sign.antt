@@ -8,20 +8,21 @@ use native.Mathlib.Nat.{add-zero, add-suc}
 use native.Mathlib.Omega.{arith}
 use native.Mathlib.Decide.{ℕ-discrete}
 use lib.Dec.{T, eqb, ltb, eqb→eq, ltb→lt, nltb→le}
-use lib.IntN.{ℤ, pos, negsuc, pow, _*ℤ_, *ℤ-zero}
+use lib.IntN.{ℤ, pos, negsuc, pow, _*ℤ_, *ℤ-zero, pos-ne-negsuc}
 use lib.ListN.{getD, length}
 use lib.Signed.{_<ℤ_}
 use Rattle.matrix.specs.Range.{everyFrom, every, tabulate}
-use Rattle.matrix.specs.Matrix.{Same, δ}
+use Rattle.matrix.specs.Matrix.{Same, δ, scaled}
 use Rattle.matrix.specs.Determinant.{skip, minor, det}
 use Rattle.matrix.specs.Operator.{operator, Proper}
 use Rattle.matrix.specs.Laws.Test.{both, left, right, imp, imp-sound, T-true, true-T}
 use Rattle.matrix.specs.Laws.Range.{every-sound, tabulate-is}
-use Rattle.matrix.specs.Laws.Integer.{*ℤ-unit-r, *ℤ-assoc, prodℤ}
+use Rattle.matrix.specs.Laws.Integer.{*ℤ-unit-l, *ℤ-unit-r, *ℤ-assoc, prodℤ}
 use Rattle.matrix.specs.Laws.Sum.{δ-same, δ-other}
-use Rattle.matrix.specs.Laws.Determinant.{det-cong, det-single, skip-is}
+use Rattle.matrix.specs.Laws.Determinant.{det-cong, det-scaled, det-single, skip-is}
 use Rattle.clifford.specs.Laws.Columns.{entryOf, row-lt, Permutation, rows-different, columns-signed}
-use Rattle.clifford.specs.Columns.{columnsMatrix, rowOf, isMinus, inversions, minuses, isEven, differs, different}
+use Rattle.clifford.specs.Laws.Signed.{signed-permutation, signed-matrix}
+use Rattle.clifford.specs.Columns.{columnsMatrix, rowOf, isMinus, signOf, signed, inversions, minuses, isEven, differs, different}
 
 -- a row's number among those that are left when row r is taken out
 abbrev without : ℕ → ℕ → ℕ
@@ -217,3 +218,25 @@ proper-even bs p q = go (isEven bs) (subst (λ z. pos 0 <ℤ z) (columns-det bs 
     go : (t : Bool) → pos 0 <ℤ cond t (pos 1) (negsuc 0) → t ≡ true
     go true h = refl
     go false h = absurd (h .lt)
+
+-- six factors −1 leave the determinant as it is
+pub signed-even : (s : ℕ) (bs : List ℕ) → Permutation bs → isEven (signed s bs) ≡ isEven bs
+unfolding pow lib.IntN.one
+signed-even s bs p =
+    go (isEven (signed s bs)) (isEven bs)
+    (sym (columns-det (signed s bs) (signed-permutation s bs p))
+    ∙ det-cong 6 (columnsMatrix (signed s bs)) (scaled (signOf s) (columnsMatrix bs)) (signed-matrix s bs p)
+    ∙ det-scaled 6 (signOf s) (columnsMatrix bs)
+    ∙ ap (λ x. x *ℤ det 6 (columnsMatrix bs)) (six (eqb s 0))
+    ∙ *ℤ-unit-l (det 6 (columnsMatrix bs))
+    ∙ columns-det bs p)
+  where
+    six : (t : Bool) → pow (cond t (pos 1) (negsuc 0)) 6 ≡ pos 1
+    six true = refl
+    six false = refl
+
+    go : (s t : Bool) → cond s (pos 1) (negsuc 0) ≡ cond t (pos 1) (negsuc 0) → s ≡ t
+    go true true e = refl
+    go true false e = absurd (pos-ne-negsuc 1 0 e)
+    go false true e = absurd (pos-ne-negsuc 1 0 (sym e))
+    go false false e = refl

@@ -1,0 +1,58 @@
+-- A sheet's bytes (document 01, "Sheet"; document 02, P2), and the operator that they stand for.
+use mathlib.Core.Bool.{cond}
+use mathlib.Core.List.{List, [], _∷_, _++_}
+use Prim.Native.Nat.{ℕ, _-_}
+use lib.IntN.{ℤ}
+use lib.ListN.{length, getD, take, drop}
+use Rattle.matrix.specs.Matrix.{scaled, entry, listed}
+use Rattle.matrix.specs.Operator.{Operator, operator}
+use Rattle.clifford.specs.Columns.{columnsMatrix, columnBytes, isMinus, signOf, signed}
+use Rattle.reduction.specs.Reduction.{taken, remaining, normalForm}
+
+-- "number 10 allows 7 to 35": the six columns and the sign, and with them up to 28 generators
+abbrev pub shortest : ℕ
+shortest = 7
+
+abbrev pub longest : ℕ
+longest = 35
+
+-- ---- written
+
+-- "a last byte says 0 for M or 1 for −M": M is the one of the two whose Clifford has a positive column 1, and bs are the columns of the one at hand
+abbrev pub signByte : List ℕ → ℕ
+signByte bs = cond (isMinus (getD bs 0 0)) 1 0
+
+-- "t bytes with the generator numbers, then six bytes for columns 1 to 6 of the Clifford", which "is now written with column 1 positive, and a
+-- last byte": of the generators gs, and of the columns bs of what remains after them
+unfoldable pub sheetBytes : List ℕ → List ℕ → List ℕ
+sheetBytes gs bs = gs ++ (signed (signByte bs) bs ++ (signByte bs ∷ []))
+
+-- the sheet of an operator
+unfoldable pub sheet : ℕ → List ℤ → List ℕ
+sheet k m = sheetBytes (taken k m) (columnBytes (entry (remaining k m)))
+
+abbrev pub sheetOf : Operator → List ℕ
+sheetOf A = sheet (A .exponent) (listed (A .matrix))
+
+-- ---- read
+
+abbrev pub sheetNumbers : List ℕ → List ℕ
+sheetNumbers s = take (length s - shortest) s
+
+abbrev pub sheetColumns : List ℕ → List ℕ
+sheetColumns s = take 6 (drop (length s - shortest) s)
+
+abbrev pub sheetSign : List ℕ → ℕ
+sheetSign s = getD s (length s - 1) 0
+
+-- an operator times a sign
+abbrev pub timesSign : ℕ → Operator → Operator
+timesSign s A = operator (A .exponent) (scaled (signOf s) (A .matrix))
+
+-- "its generators in order, times its Clifford", times the sign
+abbrev pub sheetOperator : List ℕ → Operator
+sheetOperator s = timesSign (sheetSign s) (normalForm (sheetNumbers s) (columnsMatrix (sheetColumns s)))
+
+-- the bytes "before that byte", in which M and −M agree
+abbrev pub beforeSign : List ℕ → List ℕ
+beforeSign s = take (length s - 1) s

@@ -1,0 +1,92 @@
+-- The parts of a sheet are found in its bytes, and with its sign taken into the Clifford a sheet's operator is a normal form.
+use mathlib.Core.Path.{_≡_, refl, sym, ap, ap₂, _∙_}
+use mathlib.Core.Bool.{Bool, true, false, not, cond}
+use mathlib.Core.List.{List, [], _∷_, _++_, append-assoc}
+use Prim.Native.Nat.{ℕ, _+_, _-_, _≤_, _<_}
+use native.Mathlib.Omega.{arith}
+use lib.ListN.{length, getD, take, drop, length-append, length-map}
+use lib.Seq.{take-at, drop-at, getD-append-add}
+use Rattle.matrix.specs.Matrix.{Same, scaled}
+use Rattle.matrix.specs.Operator.{operator, SameOperator}
+use Rattle.matrix.specs.Laws.Operator.{same-operator-trans, same-operator-of}
+use Rattle.clifford.specs.Columns.{columnsMatrix, isMinus, signOf, signedByte, signed}
+use Rattle.clifford.specs.Laws.Columns.{Permutation}
+use Rattle.clifford.specs.Laws.Signed.{negated-minus, signed-at, signed-permutation, signed-matrix, signed-twice}
+use Rattle.reduction.specs.Reduction.{normalForm}
+use Rattle.reduction.specs.Laws.NormalForm.{normal-exponent, normal-cong, normal-scaled}
+use Rattle.sheet_bytes.specs.Bytes.{shortest, signByte, sheetBytes, sheetNumbers, sheetColumns, sheetSign, timesSign, sheetOperator, beforeSign}
+
+-- ---- the parts
+
+module _ (gs bs : List ℕ) (l : length bs ≡ 6) where
+  abbrev written : List ℕ
+  written = signed (signByte bs) bs
+
+  written-long : length written ≡ 6
+  written-long = length-map bs (signedByte (signByte bs)) ∙ l
+
+  rest-long : length (written ++ (signByte bs ∷ [])) ≡ shortest
+  rest-long = let a = length-append written (signByte bs ∷ []) in let b = written-long in omega arith
+
+  pub length-bytes : length (sheetBytes gs bs) ≡ length gs + shortest
+  unfolding sheetBytes
+  length-bytes = length-append gs (written ++ (signByte bs ∷ [])) ∙ ap (λ n. length gs + n) rest-long
+
+  count-bytes : length (sheetBytes gs bs) - shortest ≡ length gs
+  count-bytes = let e = length-bytes in omega arith
+
+  pub numbers-back : sheetNumbers (sheetBytes gs bs) ≡ gs
+  unfolding sheetBytes
+  numbers-back = ap (λ n. take n (sheetBytes gs bs)) count-bytes ∙ take-at gs (written ++ (signByte bs ∷ [])) (length gs) refl
+
+  pub columns-back : sheetColumns (sheetBytes gs bs) ≡ signed (signByte bs) bs
+  unfolding sheetBytes
+  columns-back =
+      ap (λ n. take 6 (drop n (sheetBytes gs bs))) count-bytes
+      ∙ ap (take 6) (drop-at gs (written ++ (signByte bs ∷ [])) (length gs) refl)
+      ∙ take-at written (signByte bs ∷ []) 6 written-long
+
+  pub before-sign : beforeSign (sheetBytes gs bs) ≡ gs ++ signed (signByte bs) bs
+  unfolding sheetBytes
+  before-sign =
+      let n : length (sheetBytes gs bs) - 1 ≡ length (gs ++ written) = let a = length-bytes in let b = length-append gs written in let c = written-long in omega arith in
+      ap₂ take n (sym (append-assoc gs written (signByte bs ∷ []))) ∙ take-at (gs ++ written) (signByte bs ∷ []) (length (gs ++ written)) refl
+
+  pub sign-back : sheetSign (sheetBytes gs bs) ≡ signByte bs
+  unfolding sheetBytes
+  sign-back =
+      let n : length (sheetBytes gs bs) - 1 ≡ length (gs ++ written) + 0 = let a = length-bytes in let b = length-append gs written in let c = written-long in omega arith in
+      ap₂ (λ x i. getD x i 0) (sym (append-assoc gs written (signByte bs ∷ []))) n ∙ getD-append-add (gs ++ written) (signByte bs ∷ []) 0 0
+
+-- "written with column 1 positive"
+pub positive-first : (bs : List ℕ) → Permutation bs → isMinus (getD (signed (signByte bs) bs) 0 0) ≡ false
+positive-first bs p =
+    let l = p .long in
+    ap isMinus (signed-at (signByte bs) bs 0 (omega arith)) ∙ go (isMinus b) refl
+  where
+    b : ℕ
+    b = getD bs 0 0
+
+    go : (t : Bool) → isMinus b ≡ t → isMinus (signedByte (cond t 1 0) b) ≡ false
+    go true e = negated-minus b (p .bytes 0 (omega arith)) ∙ ap not e
+    go false e = e
+
+-- ---- the operator
+
+module _ (s : ℕ) (gs bs : List ℕ) (p : Permutation bs) where
+  -- times a sign: the sign is taken into the Clifford
+  pub sign-taken-in : Same 6 (timesSign s (normalForm gs (columnsMatrix bs)) .matrix) (normalForm gs (columnsMatrix (signed s bs)) .matrix)
+  sign-taken-in i j hi hj =
+      ap (λ A. A .matrix i j) (sym (normal-scaled gs (signOf s) (columnsMatrix bs)))
+      ∙ sym (normal-cong gs (columnsMatrix (signed s bs)) (scaled (signOf s) (columnsMatrix bs)) (signed-matrix s bs p) i j hi hj)
+
+  pub times-sign : SameOperator (timesSign s (normalForm gs (columnsMatrix bs))) (normalForm gs (columnsMatrix (signed s bs)))
+  times-sign =
+      same-operator-of (timesSign s (normalForm gs (columnsMatrix bs))) (normalForm gs (columnsMatrix (signed s bs)))
+      (normal-exponent gs (columnsMatrix bs) ∙ sym (normal-exponent gs (columnsMatrix (signed s bs)))) sign-taken-in
+
+-- what is written stands for the generators times what remained after them
+pub bytes-operator : (gs bs : List ℕ) → Permutation bs → SameOperator (sheetOperator (sheetBytes gs bs)) (normalForm gs (columnsMatrix bs))
+bytes-operator gs bs p =
+    rw (sign-back gs bs (p .long), numbers-back gs bs (p .long), columns-back gs bs (p .long))
+    (rw (signed-twice (signByte bs) bs p) at (times-sign (signByte bs) gs (signed (signByte bs) bs) (signed-permutation (signByte bs) bs p)))
