@@ -1,4 +1,5 @@
-//! The numbers of the refusals, in the order of document 01, "What can be turned away".
+//! The numbers of the refusals, in the order of document 01, "What can be turned away"; 15, of
+//! document 02, P2, follows 12.
 
 /// An operator file whose length is not 73.
 pub const FILE_LENGTH: u8 = 1;
@@ -18,12 +19,14 @@ pub const TOO_MANY_LETTERS: u8 = 7;
 pub const UNKNOWN_LETTER: u8 = 8;
 /// A beginning of a gate list whose product has a least exponent above 28.
 pub const BEGINNING_TOO_DEEP: u8 = 9;
-/// A sheet of fewer than 6 or more than 34 bytes.
+/// A sheet of fewer than 7 or more than 35 bytes.
 pub const SHEET_LENGTH: u8 = 10;
 /// A generator byte outside 1 to 15, or a column byte outside 1 to 6 and 129 to 134.
 pub const SHEET_BYTE: u8 = 11;
 /// Six columns that are no Clifford.
 pub const NO_CLIFFORD: u8 = 12;
+/// A last byte above 1, or a negative column 1.
+pub const SHEET_SIGN: u8 = 15;
 /// A sheet whose operator has another sheet.
 pub const OTHER_SHEET: u8 = 13;
 /// An order with t above 28 or p above 1000.

@@ -1,21 +1,29 @@
-//! Sheets: the rule of cutting, and their bytes, by document 01, "The rule of cutting".
+//! Sheets: the rule of cutting, by document 01, "The rule of cutting", and their bytes, by document
+//! 02, P2.
 
 use crate::generator::{GENERATORS, GENERATOR_COUNT};
-use crate::matrix::{halve, multiply, odd_bits, signed_permutation, transpose, Matrix, SIZE};
+use crate::matrix::{
+    halve, multiply, odd_bits, scale, signed_permutation, transpose, Matrix, SIZE,
+};
 use crate::operator::{Operator, MAX_EXPONENT};
 use crate::refusal;
 
+/// The shortest sheet, that of a Clifford: six columns and the last byte.
+pub const MIN_SHEET: usize = SIZE + 1;
+
 /// The longest sheet.
-pub const MAX_SHEET: usize = MAX_EXPONENT as usize + SIZE;
+pub const MAX_SHEET: usize = MAX_EXPONENT as usize + MIN_SHEET;
 
 /// A column byte for −1 is this much more than the row.
 pub const MINUS: u8 = 128;
 
-/// Generator numbers in order, and the columns of the remaining Clifford.
+/// Generator numbers in order, the columns of a Clifford whose column 1 is positive, and whether the
+/// operator is the negative of their product.
 #[derive(Clone, Debug, PartialEq, Eq)]
 pub struct Sheet {
     pub generators: Vec<u8>,
     pub columns: [u8; SIZE],
+    pub negative: bool,
 }
 
 impl Sheet {
@@ -28,54 +36,59 @@ impl Sheet {
             rest = halve(&multiply(&transpose(&GENERATORS[taken].matrix), &rest));
             generators.push(taken as u8 + 1);
         }
+        let negative = is_negative(columns(&rest)[0]);
         Sheet {
             generators,
-            columns: columns(&rest),
+            columns: columns(&signed(&rest, negative)),
+            negative,
         }
     }
 
     /// Reads the bytes of a sheet, without asking whether it is the one of its operator.
     pub fn read(bytes: &[u8]) -> Result<Sheet, u8> {
-        if !(SIZE..=MAX_SHEET).contains(&bytes.len()) {
+        if !(MIN_SHEET..=MAX_SHEET).contains(&bytes.len()) {
             return Err(refusal::SHEET_LENGTH);
         }
+        let (last, bytes) = bytes.split_last().expect("at least seven bytes");
         let (generators, columns) = bytes.split_last_chunk().expect("at least six bytes");
         if !generators.iter().all(is_generator) || !columns.iter().all(is_column) {
             return Err(refusal::SHEET_BYTE);
         }
-        let sheet = Sheet {
-            generators: generators.to_vec(),
-            columns: *columns,
-        };
-        if !sheet.clifford().is_orthogonal() || !sheet.clifford().is_proper() {
+        let clifford = clifford(columns);
+        if !clifford.is_orthogonal() || !clifford.is_proper() {
             return Err(refusal::NO_CLIFFORD);
         }
-        Ok(sheet)
+        if *last > 1 || is_negative(columns[0]) {
+            return Err(refusal::SHEET_SIGN);
+        }
+        Ok(Sheet {
+            generators: generators.to_vec(),
+            columns: *columns,
+            negative: *last == 1,
+        })
     }
 
     /// Writes the bytes of the sheet over the whole of `out`, which has its length.
     pub fn write(&self, out: &mut [u8]) {
-        let (generators, columns) = out.split_at_mut(self.generators.len());
+        let (last, bytes) = out.split_last_mut().expect("at least seven bytes");
+        let (generators, columns) = bytes.split_at_mut(self.generators.len());
         generators.copy_from_slice(&self.generators);
         columns.copy_from_slice(&self.columns);
+        *last = u8::from(self.negative);
     }
 
-    /// The product of the generators in order and the Clifford.
+    /// The product of the generators in order, the Clifford and the sign.
     pub fn operator(&self) -> Operator {
         let factors = self.generators.iter();
         let factors = factors.map(|&number| GENERATORS[usize::from(number) - 1].operator());
         let product = factors.fold(Operator::IDENTITY, |product, factor| product.times(&factor));
-        product.times(&self.clifford())
+        product.times(&self.rest())
     }
 
-    /// The matrix that the six column bytes describe.
-    fn clifford(&self) -> Operator {
-        let signed = |byte: u8| match byte.checked_sub(MINUS) {
-            Some(row) => -i64::from(row),
-            None => i64::from(byte),
-        };
+    /// The Clifford that remains when the generators are taken: that of the columns, times the sign.
+    pub fn rest(&self) -> Operator {
         Operator {
-            matrix: signed_permutation(self.columns.map(signed)),
+            matrix: signed(&clifford(&self.columns).matrix, self.negative),
             exponent: 0,
         }
     }
@@ -87,7 +100,7 @@ impl Sheet {
 
     /// The number of bytes.
     pub fn size(&self) -> usize {
-        self.generators.len() + SIZE
+        self.generators.len() + MIN_SHEET
     }
 }
 
@@ -96,6 +109,23 @@ fn first_generator(matrix: &Matrix) -> usize {
     let odd = matrix.each_ref().map(odd_bits);
     let fitting = GENERATORS.iter().position(|generator| generator.fits(&odd));
     fitting.expect("the rows group as 2, 2, 2 or as 2 and 4")
+}
+
+/// The matrix, or its negative.
+fn signed(matrix: &Matrix, negative: bool) -> Matrix {
+    scale(matrix, if negative { -1 } else { 1 })
+}
+
+/// The matrix that six column bytes describe.
+fn clifford(columns: &[u8; SIZE]) -> Operator {
+    let row = |byte: u8| match byte.checked_sub(MINUS) {
+        Some(row) => -i64::from(row),
+        None => i64::from(byte),
+    };
+    Operator {
+        matrix: signed_permutation(columns.map(row)),
+        exponent: 0,
+    }
 }
 
 /// The column bytes of a Clifford.
@@ -114,4 +144,9 @@ fn is_generator(byte: &u8) -> bool {
 
 fn is_column(byte: &u8) -> bool {
     (1..=SIZE).contains(&usize::from(byte % MINUS))
+}
+
+/// Whether a column has −1.
+fn is_negative(column: u8) -> bool {
+    column > MINUS
 }

@@ -57,8 +57,9 @@ impl Words {
 pub fn write_gates(sheet: &Sheet, out: &mut [u8]) -> usize {
     let words = Words::get();
     let generators = sheet.generators.iter().map(|&g| words.generator(g));
+    let rest = words.clifford(&columns(&sheet.rest().matrix));
     let mut written = 0;
-    for word in generators.chain([words.clifford(&sheet.columns)]) {
+    for word in generators.chain([rest]) {
         out[written..written + word.len()].copy_from_slice(word);
         written += word.len();
     }

@@ -1,8 +1,10 @@
 //! Round trips: every product of up to three generators, and deep ones of every count.
 
+mod walks;
+
 use plain::generator::GENERATORS;
 use plain::operator::{Operator, MAX_EXPONENT, OPERATOR_BYTES};
-use plain::sheet::Sheet;
+use plain::sheet::{Sheet, MAX_SHEET, MINUS, MIN_SHEET};
 use plain::words::Words;
 use plain::{gates_to_operator, operator_to_gates, operator_to_sheet, sheet_to_operator};
 
@@ -10,12 +12,12 @@ use plain::{gates_to_operator, operator_to_gates, operator_to_sheet, sheet_to_op
 fn round_trip(operator: &Operator) -> u8 {
     let mut file = [0; OPERATOR_BYTES];
     operator.write(&mut file);
-    let mut sheet = [0; 34];
+    let mut sheet = [0; MAX_SHEET];
     let count = operator_to_sheet(&file, &mut sheet).expect("a proper operator");
     assert_eq!(count, operator.exponent);
 
     let mut back = [0; OPERATOR_BYTES];
-    let sheet = &sheet[..usize::from(count) + 6];
+    let sheet = &sheet[..usize::from(count) + MIN_SHEET];
     assert_eq!(sheet_to_operator(sheet, &mut back), Ok(count));
     assert_eq!(back, file);
 
@@ -30,12 +32,17 @@ fn round_trip(operator: &Operator) -> u8 {
 
 #[test]
 fn every_clifford() {
-    for (columns, _) in Words::get().cliffords() {
-        let sheet = Sheet {
-            generators: vec![],
-            columns: *columns,
-        };
-        assert_eq!(round_trip(&sheet.operator()), 0);
+    let cliffords = Words::get().cliffords().map(|(columns, _)| *columns);
+    for columns in cliffords.filter(|columns| columns[0] < MINUS) {
+        for negative in [false, true] {
+            let sheet = Sheet {
+                generators: vec![],
+                columns,
+                negative,
+            };
+            assert_eq!(Sheet::cut(sheet.operator()), sheet);
+            assert_eq!(round_trip(&sheet.operator()), 0);
+        }
     }
 }
 
@@ -55,18 +62,9 @@ fn every_product_of_three_generators() {
 
 #[test]
 fn walks_through_every_count() {
-    for stride in 0..60 {
-        let mut operator = Operator::IDENTITY;
-        let mut step = stride;
-        while operator.exponent < MAX_EXPONENT {
-            step = step * 5 + stride + 1;
-            let generator = &GENERATORS[step / 7 % GENERATORS.len()];
-            let longer = operator.times(&generator.operator()).reduced();
-            if longer.exponent > operator.exponent {
-                operator = longer;
-                assert_eq!(round_trip(&operator), operator.exponent);
-            }
-            step %= 9973;
+    for walk in walks::walks() {
+        for (count, operator) in (0..=MAX_EXPONENT).zip(&walk) {
+            assert_eq!(round_trip(operator), count);
         }
     }
 }

@@ -1,5 +1,5 @@
-//! The cases of document 01, "Trial cuts", the example of `cut`, in both directions, and the orders
-//! of document 02, P1.
+//! The cases of document 01, "Trial cuts", with the last byte of document 02, P2, the example of
+//! `cut`, in both directions, and the orders of document 02, P1.
 
 use plain::matrix::{scale, Matrix, IDENTITY};
 use plain::operator::{Operator, OPERATOR_BYTES};
@@ -19,11 +19,11 @@ const CUT_EXAMPLE: Matrix = [
     [1, -1, 1, 0, 0, 1],
 ];
 
-const CUT_EXAMPLE_SHEET: &[u8] = &[3, 13, 3, 130, 1, 4, 5, 6];
-const IDENTITY_SHEET: &[u8] = &[1, 2, 3, 4, 5, 6];
-const MINUS_IDENTITY_SHEET: &[u8] = &[129, 130, 131, 132, 133, 134];
-const C_SHEET: &[u8] = &[3, 1, 2, 3, 4, 5, 6];
-const CZ_SHEET: &[u8] = &[2, 129, 6, 5, 132, 131];
+const CUT_EXAMPLE_SHEET: &[u8] = &[3, 13, 3, 130, 1, 4, 5, 6, 0];
+const IDENTITY_SHEET: &[u8] = &[1, 2, 3, 4, 5, 6, 0];
+const MINUS_IDENTITY_SHEET: &[u8] = &[1, 2, 3, 4, 5, 6, 1];
+const C_SHEET: &[u8] = &[3, 1, 2, 3, 4, 5, 6, 0];
+const CZ_SHEET: &[u8] = &[2, 129, 6, 5, 132, 131, 0];
 
 fn file(matrix: Matrix, exponent: u8) -> [u8; OPERATOR_BYTES] {
     let mut file = [0; OPERATOR_BYTES];
@@ -40,7 +40,7 @@ fn file_of_list(list: &[u8]) -> [u8; OPERATOR_BYTES] {
 
 /// The operator has this sheet, the sheet this operator, and its gate list leads back.
 fn assert_cut(file: &[u8], least: &[u8], sheet: &[u8]) {
-    let count = sheet.len() as u8 - 6;
+    let count = sheet.len() as u8 - 7;
     let mut out = [UNTOUCHED; 40];
     assert_eq!(operator_to_sheet(file, &mut out), Ok(count));
     assert_eq!(&out[..sheet.len()], sheet);
@@ -135,16 +135,36 @@ fn refused_operators() {
 
 #[test]
 fn refused_sheets() {
-    assert_sheet_refused(&[13, 3, 1, 2, 3, 4, 5, 6], 13);
-    assert_sheet_refused(&[3, 3, 1, 2, 3, 4, 5, 6], 13);
-    assert_sheet_refused(&[1, 2, 3, 4, 5], 10);
-    assert_sheet_refused(&[1; 35], 10);
-    assert_sheet_refused(&[16, 1, 1, 3, 4, 5, 6], 11);
-    assert_sheet_refused(&[0, 1, 2, 3, 4, 5, 6], 11);
-    assert_sheet_refused(&[1, 2, 3, 4, 5, 128], 11);
-    assert_sheet_refused(&[3, 3, 1, 1, 3, 4, 5, 6], 12);
-    assert_sheet_refused(&[1, 2, 3, 4, 6, 5], 12);
-    assert_sheet_refused(&[1, 2, 3, 4, 5, 134], 12);
+    assert_sheet_refused(&[13, 3, 1, 2, 3, 4, 5, 6, 0], 13);
+    assert_sheet_refused(&[3, 3, 1, 2, 3, 4, 5, 6, 0], 13);
+    assert_sheet_refused(&[3, 3, 1, 2, 3, 4, 5, 6, 1], 13);
+    assert_sheet_refused(&[1, 2, 3, 4, 5, 6], 10);
+    assert_sheet_refused(&[1; 7], 12);
+    assert_sheet_refused(&[1; 35], 12);
+    assert_sheet_refused(&[1; 36], 10);
+    assert_sheet_refused(&[16, 1, 1, 3, 4, 5, 6, 0], 11);
+    assert_sheet_refused(&[0, 1, 2, 3, 4, 5, 6, 0], 11);
+    assert_sheet_refused(&[1, 2, 3, 4, 5, 128, 0], 11);
+    assert_sheet_refused(&[3, 3, 1, 1, 3, 4, 5, 6, 0], 12);
+    assert_sheet_refused(&[1, 2, 3, 4, 6, 5, 0], 12);
+    assert_sheet_refused(&[1, 2, 3, 4, 5, 134, 0], 12);
+}
+
+#[test]
+fn refused_signs() {
+    for last in 2..=255 {
+        assert_sheet_refused(&[1, 2, 3, 4, 5, 6, last], 15);
+    }
+    assert_sheet_refused(&[129, 130, 131, 132, 133, 134, 0], 15);
+    assert_sheet_refused(&[129, 130, 131, 132, 133, 134, 1], 15);
+    assert_sheet_refused(&[129, 130, 3, 4, 5, 6, 0], 15);
+    // 11 and 12 come first, 13 later.
+    assert_sheet_refused(&[16, 1, 2, 3, 4, 5, 6, 2], 11);
+    assert_sheet_refused(&[129, 130, 131, 132, 133, 128, 0], 11);
+    assert_sheet_refused(&[1, 2, 3, 4, 6, 5, 2], 12);
+    assert_sheet_refused(&[129, 2, 3, 4, 5, 6, 0], 12);
+    assert_sheet_refused(&[3, 3, 1, 2, 3, 4, 5, 6, 2], 15);
+    assert_sheet_refused(&[3, 3, 129, 130, 3, 4, 5, 6, 1], 15);
 }
 
 #[test]
@@ -166,17 +186,18 @@ fn refused_gate_lists() {
 #[test]
 fn short_buffers_come_last() {
     let example = file(CUT_EXAMPLE, 2);
-    assert_eq!(operator_to_sheet(&example, &mut [0; 7]), Err(6));
-    assert_eq!(operator_to_sheet(&example, &mut [0; 8]), Ok(2));
+    assert_eq!(operator_to_sheet(&example, &mut [0; 8]), Err(6));
+    assert_eq!(operator_to_sheet(&example, &mut [0; 9]), Ok(2));
     assert_eq!(operator_to_gates(&example, &mut [0; 767]), Err(6));
     assert!(operator_to_gates(&example, &mut [0; 768]).is_ok());
     assert_eq!(gates_to_operator(b"CHC", &mut [0; 72]), Err(6));
     assert_eq!(gates_to_operator(b"CHC?", &mut []), Err(8));
     assert_eq!(sheet_to_operator(CUT_EXAMPLE_SHEET, &mut [0; 72]), Err(6));
     assert_eq!(
-        sheet_to_operator(&[3, 3, 1, 2, 3, 4, 5, 6], &mut []),
+        sheet_to_operator(&[3, 3, 1, 2, 3, 4, 5, 6, 0], &mut []),
         Err(13)
     );
+    assert_eq!(sheet_to_operator(&[1, 2, 3, 4, 5, 6, 2], &mut []), Err(15));
     assert_eq!(operator_to_sheet(&file(IDENTITY, 1), &mut []), Err(4));
 }
 

@@ -68,6 +68,7 @@ pub fn sheet(random: &mut Random, count: u8) -> Vec<u8> {
 #[cfg(test)]
 mod tests {
     use super::*;
+    use plain::sheet::MIN_SHEET;
 
     #[test]
     fn operators_have_the_wanted_count() {
@@ -77,7 +78,8 @@ mod tests {
             assert_eq!(operator.exponent, count);
             let inflated = inflated(&mut random, &operator);
             assert_eq!(Operator::read(&file(&inflated)), Ok(operator));
-            assert_eq!(sheet(&mut random, count).len(), usize::from(count) + 6);
+            let sheet = sheet(&mut random, count);
+            assert_eq!(sheet.len(), usize::from(count) + MIN_SHEET);
         }
     }
 
