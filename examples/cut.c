@@ -15,7 +15,7 @@ int main(void)
         return 1;
     }
     printf("count %u\nsheet", dimfrets_value(answer));
-    for (unsigned n = 0; n < dimfrets_value(answer) + 6; n++)
+    for (unsigned n = 0; n < dimfrets_value(answer) + DIMFRETS_MIN_SHEET; n++)
         printf(" %u", sheet[n]);
     printf("\n");
     return 0;

@@ -4,6 +4,9 @@ use std::panic::{catch_unwind, AssertUnwindSafe};
 
 use dimfrets::Refusal;
 
+// A buffer of the wrapper's size holds the longest sheet, and has no byte more.
+const _: () = assert!(dimfrets::MAX_SHEET == plain::sheet::MAX_SHEET);
+
 /// A call of the interface.
 #[derive(Clone, Copy, Debug, PartialEq, Eq)]
 pub enum Call {

@@ -3,7 +3,7 @@
 
 use plain::gate::{image, LETTERS_PER_COUNT};
 use plain::operator::{Operator, OPERATOR_BYTES};
-use plain::sheet::MAX_SHEET;
+use plain::sheet::{MAX_SHEET, MIN_SHEET};
 use samples::Random;
 
 use crate::call::{Answer, Call};
@@ -63,9 +63,8 @@ impl Judge {
             plain: (plain, plain_out),
         };
         case.check(lent_input.unchanged_past(0));
-        self.tally.add(call, tested);
-        let written = case.written(tested);
-        (tested, case.tested.1.middle()[..written].to_vec())
+        self.tally.add(call, tested, case.last_byte());
+        (tested, case.output().to_vec())
     }
 
     /// The length of buffer that the input calls for, or would if it were accepted.
@@ -76,7 +75,7 @@ impl Judge {
             Err(_) => self.random.below(29),
         };
         match call {
-            Call::OperatorToSheet => count() + 6,
+            Call::OperatorToSheet => count() + MIN_SHEET,
             Call::OperatorToGates => LETTERS_PER_COUNT * (count() + 1),
             Call::GatesToOperator | Call::SheetToOperator => OPERATOR_BYTES,
             Call::StatesToOrder => 0,
@@ -111,8 +110,7 @@ impl Case<'_> {
 
     /// The written gate list keeps its promises and multiplies to the operator.
     fn check_gates(&self, count: usize) {
-        let (tested, out) = &self.tested;
-        let list = &out.middle()[..self.written(*tested)];
+        let list = self.output();
         let known = list.iter().all(|&letter| image(letter).is_some());
         self.demand(known, "a byte of the gate list is no letter");
         let cs_gates = list.iter().filter(|&&letter| letter == b'C').count();
@@ -137,11 +135,27 @@ impl Case<'_> {
             return 0;
         };
         match self.call {
-            Call::OperatorToSheet => count as usize + 6,
+            Call::OperatorToSheet => count as usize + MIN_SHEET,
             Call::OperatorToGates => letters,
             Call::GatesToOperator | Call::SheetToOperator => OPERATOR_BYTES,
             Call::StatesToOrder => 0,
         }
+    }
+
+    /// What the library under test wrote.
+    fn output(&self) -> &[u8] {
+        let (answer, out) = &self.tested;
+        &out.middle()[..self.written(*answer)]
+    }
+
+    /// The last byte of the sheet that was written or read, if one was.
+    fn last_byte(&self) -> Option<u8> {
+        let sheet = match (self.call, self.tested.0) {
+            (Call::OperatorToSheet, Answer::Count(..)) => self.output(),
+            (Call::SheetToOperator, Answer::Count(..)) => self.input,
+            _ => return None,
+        };
+        sheet.last().copied()
     }
 
     fn demand(&self, holds: bool, otherwise: &str) {
@@ -162,7 +176,7 @@ impl Case<'_> {
     }
 }
 
-/// The answer as far as document 01 settles it.
+/// The answer as far as the papers settle it.
 fn without_letters(answer: &Answer) -> Answer {
     match *answer {
         Answer::Count(count, _) => Answer::Count(count, 0),

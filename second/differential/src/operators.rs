@@ -10,12 +10,13 @@ use crate::judge::Judge;
 
 const INPUTS_PER_CALL: usize = 60_000;
 
-const OPERATOR_CHANGES: [fn(&mut Random, &mut Operator); 19] = [
+const OPERATOR_CHANGES: [fn(&mut Random, &mut Operator); 20] = [
     negate_row,
     negate_column,
     swap_rows,
     swap_columns,
     negate_two_rows,
+    negate_all,
     copy_row,
     clear_row,
     double_row,
@@ -120,6 +121,11 @@ fn negate_two_rows(random: &mut Random, operator: &mut Operator) {
     let (i, j) = random.two_below(SIZE);
     operator.matrix[i] = operator.matrix[i].map(|entry| -entry);
     operator.matrix[j] = operator.matrix[j].map(|entry| -entry);
+}
+
+/// Another operator, that agrees up to sign.
+fn negate_all(_: &mut Random, operator: &mut Operator) {
+    operator.matrix = scale(&operator.matrix, -1);
 }
 
 /// Leaves every product right but that of the two rows.

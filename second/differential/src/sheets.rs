@@ -1,5 +1,5 @@
-//! Sheets: those of operators of every count, and ones damaged in every way that document 01 turns
-//! away.
+//! Sheets: those of operators of every count, and ones damaged in every way that documents 01 and 02
+//! turn away.
 
 // Damages have one type, whether or not they change the length.
 #![allow(clippy::ptr_arg)]
@@ -7,7 +7,7 @@
 use plain::generator::GENERATOR_COUNT;
 use plain::matrix::SIZE;
 use plain::operator::MAX_EXPONENT;
-use plain::sheet::{columns, MINUS};
+use plain::sheet::{MINUS, MIN_SHEET};
 use samples::Random;
 
 use crate::call::Call;
@@ -15,12 +15,15 @@ use crate::judge::Judge;
 
 const INPUTS: usize = 60_000;
 const PAIRS_PER_LENGTH: usize = 60;
-const LENGTHS: std::ops::RangeInclusive<usize> = 0..=40;
+const LENGTHS: std::ops::RangeInclusive<usize> = 0..=42;
 
 const BAD_GENERATORS: [u8; 8] = [0, 16, 17, 127, 128, 129, 143, 255];
 const BAD_COLUMNS: [u8; 8] = [0, 7, 8, 127, 128, 135, 136, 255];
+const BAD_LAST_BYTES: [u8; 8] = [2, 3, 4, 127, 128, 129, 254, 255];
 
-const DAMAGES: [fn(&mut Random, &mut Vec<u8>); 17] = [
+type Damage = fn(&mut Random, &mut Vec<u8>);
+
+const DAMAGES: [Damage; 26] = [
     bad_generator,
     bad_column,
     bad_generator_and_repeated,
@@ -36,8 +39,36 @@ const DAMAGES: [fn(&mut Random, &mut Vec<u8>); 17] = [
     insert_generator,
     remove_generator,
     random_generators,
+    other_last_byte,
+    bad_last_byte,
+    negate_all_columns,
+    negate_all_columns_and_sign,
+    negate_column_1_and_another,
+    wrong_sign_and_bad_byte,
+    wrong_sign_and_no_clifford,
+    wrong_sign_and_other_sheet,
+    without_last_byte,
     flip_bit,
     random_sheet,
+];
+
+/// Damages that earn 11, where the sheet has such a byte.
+const BAD_BYTES: [Damage; 2] = [bad_generator, bad_column];
+
+/// Damages that earn 12.
+const NO_CLIFFORDS: [Damage; 4] = [
+    repeat_column,
+    repeat_column_with_sign,
+    swap_columns,
+    negate_column,
+];
+
+/// Damages that earn 15.
+const WRONG_SIGNS: [Damage; 4] = [
+    bad_last_byte,
+    negate_all_columns,
+    negate_all_columns_and_sign,
+    negate_column_1_and_another,
 ];
 
 /// Runs the call that reads sheets.
@@ -63,18 +94,18 @@ pub fn run(judge: &mut Judge) {
     }
 }
 
-/// Random generators before a Clifford, or as much of it as the length leaves.
+/// Random generators before the sheet of a Clifford, or as much of it as the length leaves.
 fn of_length(random: &mut Random, len: usize) -> Vec<u8> {
-    let generators = len.saturating_sub(SIZE);
+    let generators = len.saturating_sub(MIN_SHEET);
     let mut sheet: Vec<u8> = (0..generators).map(|_| generator(random)).collect();
-    let columns = columns(&samples::clifford(random).matrix);
-    sheet.extend_from_slice(&columns[..len - generators]);
+    let clifford = samples::sheet(random, 0);
+    sheet.extend_from_slice(&clifford[..len - generators]);
     sheet
 }
 
 /// The number of generator bytes; none in what is shorter than a sheet.
 fn count(sheet: &[u8]) -> usize {
-    sheet.len().saturating_sub(SIZE)
+    sheet.len().saturating_sub(MIN_SHEET)
 }
 
 /// The place of a generator, if there is one.
@@ -82,9 +113,14 @@ fn generator_place(random: &mut Random, sheet: &[u8]) -> Option<usize> {
     (count(sheet) > 0).then(|| random.below(count(sheet)))
 }
 
-/// The places of two different columns, if there are six.
+/// The place of column 1, if there are six columns and the last byte.
+fn column_1(sheet: &[u8]) -> Option<usize> {
+    sheet.len().checked_sub(MIN_SHEET)
+}
+
+/// The places of two different columns, if there are any.
 fn column_places(random: &mut Random, sheet: &[u8]) -> Option<(usize, usize)> {
-    let first = sheet.len().checked_sub(SIZE)?;
+    let first = column_1(sheet)?;
     let (i, j) = random.two_below(SIZE);
     Some((first + i, first + j))
 }
@@ -139,7 +175,7 @@ fn negate_column(random: &mut Random, sheet: &mut Vec<u8>) {
     }
 }
 
-/// Another Clifford, and so the sheet of another operator.
+/// Another Clifford; the sheet of another operator unless column 1 is one of the two.
 fn negate_two_columns(random: &mut Random, sheet: &mut Vec<u8>) {
     if let Some((i, j)) = column_places(random, sheet) {
         sheet[i] ^= MINUS;
@@ -180,8 +216,72 @@ fn remove_generator(random: &mut Random, sheet: &mut Vec<u8>) {
 
 /// Few generators, so that the sheet is often that of its operator.
 fn random_generators(random: &mut Random, sheet: &mut Vec<u8>) {
-    let len = SIZE + random.below(5);
+    let len = MIN_SHEET + random.below(5);
     *sheet = of_length(random, len);
+}
+
+/// The sheet of the negative.
+fn other_last_byte(_: &mut Random, sheet: &mut Vec<u8>) {
+    if let Some(last) = sheet.last_mut() {
+        *last ^= 1;
+    }
+}
+
+fn bad_last_byte(random: &mut Random, sheet: &mut Vec<u8>) {
+    if let Some(last) = sheet.last_mut() {
+        *last = if random.chance(2) {
+            *random.pick(&BAD_LAST_BYTES)
+        } else {
+            2 + random.below(254) as u8
+        };
+    }
+}
+
+/// Multiplies to the negative, as the other last byte would.
+fn negate_all_columns(_: &mut Random, sheet: &mut Vec<u8>) {
+    if let Some(first) = column_1(sheet) {
+        sheet[first..first + SIZE]
+            .iter_mut()
+            .for_each(|column| *column ^= MINUS);
+    }
+}
+
+/// Multiplies to the same operator.
+fn negate_all_columns_and_sign(random: &mut Random, sheet: &mut Vec<u8>) {
+    negate_all_columns(random, sheet);
+    other_last_byte(random, sheet);
+}
+
+fn negate_column_1_and_another(random: &mut Random, sheet: &mut Vec<u8>) {
+    if let Some(first) = column_1(sheet) {
+        sheet[first] ^= MINUS;
+        sheet[first + 1 + random.below(SIZE - 1)] ^= MINUS;
+    }
+}
+
+fn wrong_sign(random: &mut Random, sheet: &mut Vec<u8>) {
+    random.pick(&WRONG_SIGNS)(random, sheet);
+}
+
+fn wrong_sign_and_bad_byte(random: &mut Random, sheet: &mut Vec<u8>) {
+    wrong_sign(random, sheet);
+    random.pick(&BAD_BYTES)(random, sheet);
+}
+
+fn wrong_sign_and_no_clifford(random: &mut Random, sheet: &mut Vec<u8>) {
+    wrong_sign(random, sheet);
+    random.pick(&NO_CLIFFORDS)(random, sheet);
+}
+
+/// Equal neighbours, for which cutting gives another sheet, and a wrong sign.
+fn wrong_sign_and_other_sheet(random: &mut Random, sheet: &mut Vec<u8>) {
+    wrong_sign(random, sheet);
+    equal_neighbours(random, sheet);
+}
+
+/// Each byte is read in the place before its own.
+fn without_last_byte(_: &mut Random, sheet: &mut Vec<u8>) {
+    sheet.pop();
 }
 
 fn flip_bit(random: &mut Random, sheet: &mut Vec<u8>) {

@@ -1,18 +1,24 @@
-//! How often each call ran, each refusal came and each count, or figure of states, was seen.
+//! How often each call ran, each refusal came, and each count, or figure of states, and each last
+//! byte of a sheet was seen.
 
 use crate::call::{Answer, Call, CALLS};
 
-const REFUSALS: usize = 14;
+const REFUSALS: usize = 15;
 const COUNTS: usize = 29;
 const FIGURES: usize = 57;
+const LAST_BYTES: usize = 2;
 const LEAST_INPUTS: u64 = 200_000;
 const LEAST_PER_REFUSAL: u64 = 1000;
+
+/// The calls that write or read sheets.
+const SHEET_CALLS: [Call; 2] = [Call::OperatorToSheet, Call::SheetToOperator];
 
 /// The tally of all calls.
 pub struct Tally {
     inputs: [u64; CALLS.len()],
     refusals: [u64; REFUSALS],
     counts: [Vec<u64>; CALLS.len()],
+    last_bytes: [[u64; LAST_BYTES]; CALLS.len()],
 }
 
 impl Tally {
@@ -21,20 +27,25 @@ impl Tally {
             inputs: [0; CALLS.len()],
             refusals: [0; REFUSALS],
             counts: CALLS.map(|call| vec![0; counts(call)]),
+            last_bytes: [[0; LAST_BYTES]; CALLS.len()],
         }
     }
 
-    /// Counts one answer.
-    pub fn add(&mut self, call: Call, answer: Answer) {
+    /// Counts one answer, and the last byte of the sheet that was written or read, if one was.
+    pub fn add(&mut self, call: Call, answer: Answer, last_byte: Option<u8>) {
         self.inputs[call as usize] += 1;
         match answer {
             Answer::Refused(number) => self.refusals[usize::from(number) - 1] += 1,
             Answer::Count(count, _) => self.counts[call as usize][count as usize] += 1,
             Answer::Unknown => {}
         }
+        if let Some(last_byte) = last_byte {
+            self.last_bytes[call as usize][usize::from(last_byte)] += 1;
+        }
     }
 
-    /// Prints a line for each call, one for the refusals and one for the counts of each call.
+    /// Prints a line for each call, one for the refusals, one for the counts of each call and one for
+    /// the last bytes of each call with sheets.
     pub fn print(&self) {
         for (call, inputs) in CALLS.iter().zip(self.inputs) {
             println!("{}: {inputs} inputs", call.name());
@@ -42,11 +53,12 @@ impl Tally {
         println!("inputs in all: {}", self.inputs.iter().sum::<u64>());
         println!("refusals:{}", numbered(1, &self.refusals));
         for call in CALLS {
-            println!(
-                "counts of {}:{}",
-                call.name(),
-                numbered(0, &self.counts[call as usize])
-            );
+            let times = numbered(0, &self.counts[call as usize]);
+            println!("counts of {}:{times}", call.name());
+        }
+        for call in SHEET_CALLS {
+            let times = numbered(0, &self.last_bytes[call as usize]);
+            println!("last bytes of {}:{times}", call.name());
         }
     }
 
@@ -61,16 +73,21 @@ impl Tally {
                 gaps.push(format!("refusal {number}"));
             }
         }
-        gaps.extend(CALLS.iter().flat_map(|&call| self.missing_counts(call)));
+        for call in CALLS {
+            gaps.extend(missing("count", call, &self.counts[call as usize]));
+        }
+        for call in SHEET_CALLS {
+            gaps.extend(missing("last byte", call, &self.last_bytes[call as usize]));
+        }
         gaps
     }
+}
 
-    fn missing_counts(&self, call: Call) -> Vec<String> {
-        let counts = self.counts[call as usize].iter().enumerate();
-        let missing = counts.filter(|&(_, &times)| times == 0);
-        let gap = |(count, _)| format!("count {count} of {}", call.name());
-        missing.map(gap).collect()
-    }
+/// The numbers from 0 up that a call never met.
+fn missing(what: &str, call: Call, times: &[u64]) -> Vec<String> {
+    let numbers = (0..times.len()).filter(|&number| times[number] == 0);
+    let gap = |number| format!("{what} {number} of {}", call.name());
+    numbers.map(gap).collect()
 }
 
 /// How many counts, or figures, a call can answer.

@@ -1,8 +1,10 @@
-//! The cases of document 01, "Trial cuts", the example of `cut`, and the orders of document 02, P1, on
-//! both implementations.
+//! The cases of document 01, "Trial cuts", with the last byte of document 02, P2, the example of
+//! `cut`, and the orders of document 02, P1, on both implementations.
 
+use plain::gate::LETTERS_PER_COUNT;
 use plain::matrix::{scale, Matrix, IDENTITY};
 use plain::operator::{Operator, OPERATOR_BYTES};
+use plain::sheet::MIN_SHEET;
 
 use crate::call::{order, Answer, Call};
 use crate::judge::Judge;
@@ -16,10 +18,27 @@ const CUT_EXAMPLE: Matrix = [
     [1, -1, 1, 0, 0, 1],
 ];
 
-const IDENTITY_SHEET: &[u8] = &[1, 2, 3, 4, 5, 6];
-const MINUS_IDENTITY_SHEET: &[u8] = &[129, 130, 131, 132, 133, 134];
-const CZ_SHEET: &[u8] = &[2, 129, 6, 5, 132, 131];
-const CHC_SHEET: &[u8] = &[3, 13, 3, 130, 1, 4, 5, 6];
+const IDENTITY_SHEET: &[u8] = &[1, 2, 3, 4, 5, 6, 0];
+const MINUS_IDENTITY_SHEET: &[u8] = &[1, 2, 3, 4, 5, 6, 1];
+const C_SHEET: &[u8] = &[3, 1, 2, 3, 4, 5, 6, 0];
+const CZ_SHEET: &[u8] = &[2, 129, 6, 5, 132, 131, 0];
+const CHC_SHEET: &[u8] = &[3, 13, 3, 130, 1, 4, 5, 6, 0];
+
+/// Sheets and the refusals that they earn.
+const REFUSED_SHEETS: [(&[u8], u8); 12] = [
+    (&[1, 2, 3, 4, 5, 6], 10),
+    (&[16, 1, 2, 3, 4, 5, 6, 2], 11),
+    (&[1, 2, 3, 4, 5, 128, 2], 11),
+    (&[129, 2, 3, 4, 5, 6, 0], 12),
+    (&[1, 2, 3, 4, 6, 5, 2], 12),
+    (&[1, 2, 3, 4, 5, 6, 2], 15),
+    (&[1, 2, 3, 4, 5, 6, 255], 15),
+    (&[129, 130, 131, 132, 133, 134, 0], 15),
+    (&[129, 130, 131, 132, 133, 134, 1], 15),
+    (&[3, 3, 1, 2, 3, 4, 5, 6, 2], 15),
+    (&[13, 3, 1, 2, 3, 4, 5, 6, 0], 13),
+    (&[3, 3, 1, 2, 3, 4, 5, 6, 0], 13),
+];
 
 /// t, p and the states to order.
 const ORDERS: [(u64, u64, u64); 7] = [
@@ -76,7 +95,7 @@ fn refused_operators(judge: &mut Judge) {
 
 fn gate_lists(judge: &mut Judge) {
     list_cuts(judge, b"", IDENTITY_SHEET);
-    list_cuts(judge, b"C", &[3, 1, 2, 3, 4, 5, 6]);
+    list_cuts(judge, b"C", C_SHEET);
     list_cuts(judge, b"CC", CZ_SHEET);
     list_cuts(judge, b"Z", CZ_SHEET);
     list_cuts(judge, b"HH", IDENTITY_SHEET);
@@ -86,14 +105,9 @@ fn gate_lists(judge: &mut Judge) {
 }
 
 fn refused_sheets(judge: &mut Judge) {
-    for sheet in [[13, 3, 1, 2, 3, 4, 5, 6], [3, 3, 1, 2, 3, 4, 5, 6]] {
-        expect(
-            judge,
-            Call::SheetToOperator,
-            &sheet,
-            Answer::Refused(13),
-            &[],
-        );
+    for (sheet, number) in REFUSED_SHEETS {
+        let answer = Answer::Refused(number);
+        expect(judge, Call::SheetToOperator, sheet, answer, &[]);
     }
 }
 
@@ -116,7 +130,8 @@ fn cuts(judge: &mut Judge, file: &[u8], least: &[u8], sheet: &[u8]) {
     let answer = count_of(sheet);
     expect(judge, Call::OperatorToSheet, file, answer, sheet);
     expect(judge, Call::SheetToOperator, sheet, answer, least);
-    let (_, list) = judge.run_with(Call::OperatorToGates, file, 256 * (sheet.len() - 5));
+    let letters = LETTERS_PER_COUNT * (count(sheet) + 1);
+    let (_, list) = judge.run_with(Call::OperatorToGates, file, letters);
     expect(judge, Call::GatesToOperator, &list, answer, least);
 }
 
@@ -140,7 +155,11 @@ fn expect(judge: &mut Judge, call: Call, input: &[u8], answer: Answer, output: &
 }
 
 fn count_of(sheet: &[u8]) -> Answer {
-    Answer::Count(sheet.len() as u64 - 6, 0)
+    Answer::Count(count(sheet) as u64, 0)
+}
+
+fn count(sheet: &[u8]) -> usize {
+    sheet.len() - MIN_SHEET
 }
 
 fn file(matrix: &Matrix, exponent: u8) -> Vec<u8> {

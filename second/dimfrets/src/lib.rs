@@ -1,5 +1,5 @@
 //! Safe calls of the CS cutter's C interface, `include/dimfrets.h`. Formats, numbers and the order
-//! of refusals are those of document 01.
+//! of refusals are those of documents 01 and 02.
 //!
 //! A refusal leaves every byte of the output as it was; on success the bytes past the output keep
 //! theirs too.
@@ -23,7 +23,7 @@
 //! let mut sheet = [0; dimfrets::MAX_SHEET];
 //! let count = dimfrets::operator_to_sheet(&file, &mut sheet)?;
 //! assert_eq!(count, 2);
-//! assert_eq!(sheet[..8], [3, 13, 3, 130, 1, 4, 5, 6]);
+//! assert_eq!(sheet[..9], [3, 13, 3, 130, 1, 4, 5, 6, 0]);
 //!
 //! let mut list = vec![0; dimfrets::GATES_BUFFER];
 //! let written = dimfrets::operator_to_gates(&file, &mut list)?;
@@ -44,7 +44,7 @@ pub use refusal::Refusal;
 /// The length of an operator file.
 pub const OPERATOR_BYTES: usize = 73;
 /// The length of the longest sheet.
-pub const MAX_SHEET: usize = 34;
+pub const MAX_SHEET: usize = 35;
 /// The length of the longest gate list that is read.
 pub const MAX_LETTERS: usize = 8192;
 /// The length of a buffer that holds any gate list written.
@@ -68,7 +68,10 @@ extern "C" {
     fn dimfrets_states_to_order(t: u64, p: u64) -> u64;
 }
 
-/// Cuts an operator file into its sheet and answers the count t; the sheet has t + 6 bytes.
+/// Cuts an operator file into its sheet and answers the count t. The sheet has t + 7 bytes: t
+/// generator numbers, six columns of a Clifford whose column 1 is positive, and a last byte, 0 for
+/// their product and 1 for its negative. Two operators agree up to sign exactly when their sheets
+/// agree before the last byte.
 ///
 /// Refuses with [`Refusal::FileLength`] to [`Refusal::BufferTooShort`], in their order.
 pub fn operator_to_sheet(file: &[u8], out: &mut [u8]) -> Result<u8, Refusal> {
@@ -90,10 +93,10 @@ pub fn gates_to_operator(list: &[u8], out: &mut [u8]) -> Result<u8, Refusal> {
     count(run(dimfrets_gates_to_operator, list, out))
 }
 
-/// Multiplies a sheet, writes the operator file, 73 bytes, and answers the count.
+/// Multiplies a sheet, its sign included, writes the operator file, 73 bytes, and answers the count.
 ///
-/// Refuses with [`Refusal::SheetLength`] to [`Refusal::OtherSheet`], in their order, then with
-/// [`Refusal::BufferTooShort`].
+/// Refuses with [`Refusal::SheetLength`], [`Refusal::SheetByte`], [`Refusal::NoClifford`],
+/// [`Refusal::SheetSign`], [`Refusal::OtherSheet`] or [`Refusal::BufferTooShort`], in this order.
 pub fn sheet_to_operator(sheet: &[u8], out: &mut [u8]) -> Result<u8, Refusal> {
     count(run(dimfrets_sheet_to_operator, sheet, out))
 }
@@ -173,12 +176,13 @@ mod tests {
         assert_eq!(letters(1), Err(Refusal::FileLength));
         assert_eq!(count(28 << 8), Ok(28));
         assert_eq!(count(14), Err(Refusal::OrderOutOfRange));
+        assert_eq!(count(15), Err(Refusal::SheetSign));
     }
 
     #[test]
     #[should_panic(expected = "known number")]
     fn a_refusal_has_a_known_number() {
-        let _ = count(15);
+        let _ = count(16);
     }
 
     #[test]
@@ -221,6 +225,27 @@ mod tests {
     #[should_panic(expected = "below 256")]
     fn the_count_of_a_gate_list_is_below_256() {
         let _ = letters(1 << 31);
+    }
+
+    #[test]
+    fn a_sheet_has_a_sign() {
+        let mut file = [0; OPERATOR_BYTES];
+        let sheet = [1, 2, 3, 4, 5, 6, 1];
+        assert_eq!(sheet_to_operator(&sheet, &mut file), Ok(0));
+        assert_eq!(file[..3], [0, 255, 255]);
+        let mut back = [9; MAX_SHEET];
+        assert_eq!(operator_to_sheet(&file, &mut back), Ok(0));
+        assert_eq!(back[..8], [1, 2, 3, 4, 5, 6, 1, 9]);
+        assert_eq!(
+            operator_to_sheet(&file, &mut back[..6]),
+            Err(Refusal::BufferTooShort)
+        );
+        for sheet in [[1, 2, 3, 4, 5, 6, 2], [129, 130, 131, 132, 133, 134, 0]] {
+            assert_eq!(
+                sheet_to_operator(&sheet, &mut file),
+                Err(Refusal::SheetSign)
+            );
+        }
     }
 
     #[test]

@@ -1,8 +1,8 @@
-//! The refusals of document 01, "What can be turned away", with their numbers.
+//! The refusals of document 01, "What can be turned away", and of document 02, with their numbers.
 
 use std::fmt;
 
-/// Why a call was turned away. The discriminants are the numbers of document 01.
+/// Why a call was turned away. The discriminants are the numbers of documents 01 and 02.
 #[derive(Clone, Copy, Debug, PartialEq, Eq, PartialOrd, Ord, Hash)]
 #[repr(u8)]
 pub enum Refusal {
@@ -20,11 +20,12 @@ pub enum Refusal {
     NoClifford = 12,
     OtherSheet = 13,
     OrderOutOfRange = 14,
+    SheetSign = 15,
 }
 
 impl Refusal {
     /// All refusals, in the order of their numbers.
-    pub const ALL: [Refusal; 14] = [
+    pub const ALL: [Refusal; 15] = [
         Refusal::FileLength,
         Refusal::ExponentTooLarge,
         Refusal::EntryTooLarge,
@@ -39,14 +40,15 @@ impl Refusal {
         Refusal::NoClifford,
         Refusal::OtherSheet,
         Refusal::OrderOutOfRange,
+        Refusal::SheetSign,
     ];
 
-    /// The number in document 01, 1 to 14.
+    /// The number in documents 01 and 02, 1 to 15.
     pub fn number(self) -> u8 {
         self as u8
     }
 
-    /// The refusal with a number of 1 to 14.
+    /// The refusal with a number of 1 to 15.
     pub fn from_number(number: u8) -> Option<Refusal> {
         let index = usize::from(number).checked_sub(1)?;
         Refusal::ALL.get(index).copied()
@@ -65,11 +67,12 @@ impl Refusal {
             Refusal::BeginningTooDeep => {
                 "the product of a beginning of the gate list has a least exponent above 28"
             }
-            Refusal::SheetLength => "the sheet has fewer than 6 or more than 34 bytes",
+            Refusal::SheetLength => "the sheet has fewer than 7 or more than 35 bytes",
             Refusal::SheetByte => "a byte of the sheet is no generator or no column",
             Refusal::NoClifford => "the six columns of the sheet are no Clifford",
             Refusal::OtherSheet => "cutting the sheet's operator gives another sheet",
             Refusal::OrderOutOfRange => "t is above 28 or the spoilage above 1000 thousandths",
+            Refusal::SheetSign => "the last byte of the sheet is above 1, or column 1 is negative",
         }
     }
 }
@@ -93,6 +96,6 @@ mod tests {
             assert_eq!(Refusal::from_number(number), Some(refusal));
         }
         assert_eq!(Refusal::from_number(0), None);
-        assert_eq!(Refusal::from_number(15), None);
+        assert_eq!(Refusal::from_number(16), None);
     }
 }
