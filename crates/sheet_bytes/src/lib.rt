@@ -35,10 +35,10 @@ pub fn sheet_byte(count: u8, numbers: [u8; 60], columns: [u8; 6], n: usize) -> u
         return numbers[n];
     }
     let sign = sign_byte(columns);
-    if n < t + 6 {
-        return clifford::signed_byte(columns[n - t], sign);
+    if n == t + 6 {
+        return sign;
     }
-    sign
+    clifford::signed_byte(columns[n - t], sign)
 }
 
 // Whether the first `count` bytes are generator numbers.

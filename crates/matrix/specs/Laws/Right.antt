@@ -77,7 +77,7 @@ module _ (D : Matrix) (d : Orthogonal (operator 0 D)) where
       off = mask-cong (product 6 (product 6 M D) (transpose D)) M (taken-off M)
 
   -- and the product of a pair that cannot be halved cannot be halved either
-  pub reduced-right : (k : ℕ) (M : Matrix) → Reduced (operator k M) → Reduced (operator k (entry (listed (product 6 M D))))
+  reduced-right : (k : ℕ) (M : Matrix) → Reduced (operator k M) → Reduced (operator k (entry (listed (product 6 M D))))
   reduced-right k M r = record {
     small = λ e. r .small
         (λ i j hi hj.

@@ -12,7 +12,7 @@ use Rattle.matrix.specs.Laws.Integer.{*ℤ-cancel-l, pos-nz}
 use Rattle.matrix.specs.Laws.Matrix.{product-cong, product-assoc, product-scaled-l, same-refl}
 use Rattle.matrix.specs.Laws.Operator.{same-operator-refl, same-operator-sym, same-operator-trans, same-operator-of, times-same, times-orthogonal, same-orthogonal}
 use Rattle.matrix.specs.Laws.Array.{entry-listed, length-listed, listed-cong, least-form, least-orthogonal, same-least-form}
-use Rattle.matrix.specs.Laws.Right.{masks-right, reduced-right, least-right}
+use Rattle.matrix.specs.Laws.Right.{masks-right, least-right}
 use Rattle.residue.specs.Generator.{generator, fits}
 use Rattle.residue.specs.Laws.Generator.{fits-cong, first-fit-cong}
 use Rattle.grouping.specs.Laws.Residue.{grouped-rows}
@@ -30,7 +30,7 @@ module _ (D : Matrix) (d : Orthogonal (operator 0 D)) where
       same-operator-of (timesOperator (operator k (entry m)) (operator 0 D)) (operator k (entry (timesRight m D))) (omega arith)
       (λ i j hi hj. sym (entry-listed (product 6 (entry m) D) i j hi hj))
 
-  pub right-orthogonal : (k : ℕ) (m : List ℤ) → Orthogonal (operator k (entry m)) → Orthogonal (operator k (entry (timesRight m D)))
+  right-orthogonal : (k : ℕ) (m : List ℤ) → Orthogonal (operator k (entry m)) → Orthogonal (operator k (entry (timesRight m D)))
   right-orthogonal k m o = same-orthogonal (right-same k m) (times-orthogonal o d)
 
   right-chosen : (m : List ℤ) → chosen (timesRight m D) ≡ chosen m

@@ -8,7 +8,7 @@ use lib.Seq.{length-take-le, getD-take, getD-append-add}
 use borrow.Author.Needs.{needs}
 use Rattle.clifford.specs.Columns.{signedByte, signed}
 use Rattle.clifford.specs.Laws.Signed.{signed-at}
-use Rattle.sheet_bytes.specs.Bytes.{shortest, signByte, sheetBytes}
+use Rattle.sheet_bytes.specs.Bytes.{signByte, sheetBytes}
 use Rattle.sheet_bytes.proofs.sheet_byte.Statement.{statement}
 use Rattle.sheet_bytes.proofs.sheet_byte.Tie as tie
 
@@ -36,16 +36,16 @@ module _ (count n : ℕ) (numbers columns : List ℕ) (h : count ≤ 60) (l : le
       let j : length (take count numbers) + (n - count) ≡ n = let e = taken in omega arith in
       ap (λ x. getD (take count numbers ++ rest) x 0) (sym j) ∙ getD-append-add (take count numbers) rest (n - count) 0
 
+  last : n ≡ count + 6 → sign ≡ getD (sheetBytes (take count numbers) columns) n 0
+  last u =
+      let j : length (signed sign columns) + 0 ≡ n - count = let e = six in omega arith in
+      sym (behind (omega arith) ∙ ap (λ x. getD rest x 0) (sym j) ∙ getD-append-add (signed sign columns) (sign ∷ []) 0 0)
+
   column : count ≤ n → n < count + 6 → signedByte sign (getD columns (n - count) 0) ≡ getD (sheetBytes (take count numbers) columns) n 0
   column u v =
       sym
       (behind u ∙ List·getD-append (signed sign columns) (sign ∷ []) 0 (n - count) (let e = six in omega arith)
       ∙ signed-at sign columns (n - count) (omega arith))
-
-  last : count + 6 ≤ n → n < count + shortest → sign ≡ getD (sheetBytes (take count numbers) columns) n 0
-  last u v =
-      let j : length (signed sign columns) + 0 ≡ n - count = let e = six in omega arith in
-      sym (behind (omega arith) ∙ ap (λ x. getD rest x 0) (sym j) ∙ getD-append-add (signed sign columns) (sign ∷ []) 0 0)
 
 array-read-result : tie.Need-array-read-result
 array-read-result c = search needs
@@ -59,24 +59,24 @@ sign-byte-requires c κs = search needs
 add-if2 : tie.Need-add-if2
 add-if2 c = search needs
 
+returns-2 : tie.Need-returns-2
+returns-2 c =
+    let n = c .before .before in
+    let s = n .before in
+    c .before .sign-byte .ensures ∙ last (s .args .count) (s .args .n) (s .args .t2) (s .args .t3) (s .pre .0) (s .good .1 .0 .1 .0 .1) (s .good .1 .1 .0 .1 .0 .1) (c .if2 .taken)
+
 array-read-signed-byte : tie.Need-array-read-signed-byte
 array-read-signed-byte c = search needs
 
 signed-byte-requires : tie.Need-signed-byte-requires
 signed-byte-requires c κs = search needs
 
-returns-2 : tie.Need-returns-2
-returns-2 c =
+returns-3 : tie.Need-returns-3
+returns-3 c =
     let n = c .before .before .before in
     let s = n .before in
     c .signed-byte .ensures ∙ ap (λ x. signedByte x (getD (s .args .t3) (s .args .n - s .args .count) 0)) (c .before .before .sign-byte .ensures)
-    ∙ column (s .args .count) (s .args .n) (s .args .t2) (s .args .t3) (s .pre .0) (s .good .1 .0 .1 .0 .1) (s .good .1 .1 .0 .1 .0 .1) (n .if1 .left) (c .before .if2 .taken)
-
-returns-3 : tie.Need-returns-3
-returns-3 c =
-    let n = c .before .before in
-    let s = n .before in
-    c .before .sign-byte .ensures ∙ last (s .args .count) (s .args .n) (s .args .t2) (s .args .t3) (s .pre .0) (s .good .1 .0 .1 .0 .1) (s .good .1 .1 .0 .1 .0 .1) (c .if2 .left) (s .pre .1)
+    ∙ column (s .args .count) (s .args .n) (s .args .t2) (s .args .t3) (s .pre .0) (s .good .1 .0 .1 .0 .1) (s .good .1 .1 .0 .1 .0 .1) (n .if1 .left) (omega (arith, s .pre .1))
 
 pub sheet-byte-spec : {M : Type 1} → statement M
 sheet-byte-spec =
@@ -86,7 +86,7 @@ sheet-byte-spec =
     returns
     sign-byte-requires
     add-if2
+    returns-2
     array-read-signed-byte
     signed-byte-requires
-    returns-2
     returns-3)

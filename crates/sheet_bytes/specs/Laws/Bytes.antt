@@ -2,13 +2,13 @@
 use mathlib.Core.Path.{_≡_, refl, sym, ap, ap₂, _∙_}
 use mathlib.Core.Bool.{Bool, true, false, not, cond}
 use mathlib.Core.List.{List, [], _∷_, _++_, append-assoc}
-use Prim.Native.Nat.{ℕ, _+_, _-_, _≤_, _<_}
+use Prim.Native.Nat.{ℕ, _+_, _-_}
 use native.Mathlib.Omega.{arith}
 use lib.ListN.{length, getD, take, drop, length-append, length-map}
 use lib.Seq.{take-at, drop-at, getD-append-add}
 use Rattle.matrix.specs.Matrix.{Same, scaled}
-use Rattle.matrix.specs.Operator.{operator, SameOperator}
-use Rattle.matrix.specs.Laws.Operator.{same-operator-trans, same-operator-of}
+use Rattle.matrix.specs.Operator.{SameOperator}
+use Rattle.matrix.specs.Laws.Operator.{same-operator-of}
 use Rattle.clifford.specs.Columns.{columnsMatrix, isMinus, signOf, signedByte, signed}
 use Rattle.clifford.specs.Laws.Columns.{Permutation}
 use Rattle.clifford.specs.Laws.Signed.{negated-minus, signed-at, signed-permutation, signed-matrix, signed-twice}

@@ -1,21 +1,21 @@
 -- Sheets of orthogonal operators of every exponent: a sheet gives back its operator, sign included. Two operators have one sheet exactly if they
 -- stand for the same matrix, and sheets that agree before the last byte exactly if they do so up to sign.
 use mathlib.Core.Path.{_≡_, refl, sym, ap, ap₂, _∙_, subst}
-use mathlib.Core.Logic.{_⊎_, inl, inr, _↔_}
+use mathlib.Core.Logic.{inl, inr, _↔_}
 use mathlib.Core.Bool.{Bool, true, false, not, cond}
-use mathlib.Core.List.{List, [], _∷_, _++_}
-use Prim.Native.Nat.{ℕ, _+_, _<_}
+use mathlib.Core.List.{List, _++_}
+use Prim.Native.Nat.{ℕ, _+_}
 use native.Mathlib.Omega.{arith}
 use lib.Dec.{eqb}
 use lib.IntN.{ℤ, pos, negsuc, _*ℤ_}
 use lib.ListN.{length, getD, take, drop, length-append}
 use lib.Seq.{take-at, drop-at}
-use Rattle.matrix.specs.Matrix.{Matrix, scaled, entry, listed}
+use Rattle.matrix.specs.Matrix.{Matrix, scaled, entry}
 use Rattle.matrix.specs.Operator.{Operator, operator, negative, SameOperator, SameUpToSign, Orthogonal}
 use Rattle.matrix.specs.Laws.Integer.{*ℤ-unit-l, *ℤ-assoc}
 use Rattle.matrix.specs.Laws.Operator.{same-operator-sym, same-operator-trans, same-operator-of, negative-cong}
 use Rattle.matrix.specs.Laws.Array.{entry-listed, length-listed, same-least-form}
-use Rattle.clifford.specs.Columns.{columnsMatrix, columnBytes, isMinus, signOf, signedByte, signed}
+use Rattle.clifford.specs.Columns.{columnsMatrix, columnBytes, isMinus, signOf, signed}
 use Rattle.clifford.specs.Laws.Columns.{Permutation, matrix-columns, matrix-permutation}
 use Rattle.clifford.specs.Laws.Signed.{columns-unique, negated-minus, signed-at, signed-none, signed-permutation, signed-matrix, signed-twice}
 use Rattle.reduction.specs.Reduction.{generators, remainder, count, taken, remaining, normalForm}
