@@ -1,4 +1,4 @@
-// Sheets read into operator files: refusals 10 to 13, 15 and 6. The contracts cite specs/Promise.antt.
+// Sheets read into operator files: refusals 10, 11, 12, 15, 13 and 6. The contracts cite specs/Promise.antt.
 
 use file::Answer;
 use file::Read;
@@ -87,7 +87,8 @@ fn read_sheet(bytes: &[u8]) -> Read
 }
 
 // A sheet into an operator file at the front of `out`.
-// Wrong, and refused: a sheet taken in that cutting would not give; the generators multiplied in the other order; the last byte passed over.
+// Wrong, and refused: a sheet taken in that cutting would not give; the generators multiplied in the other order; the sign read from
+// the last column.
 pub fn sheet_to_operator(bytes: &[u8], out: &mut [u8]) -> Answer
     ensures { λ r. ⌜ OperatorPromise (now (bytes .entry)) (now (out .entry)) (now (out .exit)) r ⌝ }
 {
