@@ -9,7 +9,7 @@ ghost use Rattle.cut.specs.Output.{cutText};
 fn answer(file: &[u8], out: &mut [u8; 256]) -> usize
     ensures { λ r. ⌜ Appended (cutText (now (file .entry))) 0 (now (out .entry)) (now (out .exit)) r × Counts r (now (out .exit)) ⌝ }
 {
-    let mut sheet = [0u8; 35];
+    let mut sheet = [0u8; sheet_bytes::LONGEST];
     let answer = operator::operator_to_sheet(file, &mut sheet);
     match answer {
         Answer::Count(count) => {

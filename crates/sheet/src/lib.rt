@@ -87,8 +87,8 @@ fn read_sheet(bytes: &[u8]) -> Read
 }
 
 // A sheet into an operator file at the front of `out`.
-// Wrong, and refused: a sheet taken in that cutting would not give; the generators multiplied in the other order; the sign read from
-// the last column.
+// Wrong, and refused: a sheet taken in that cutting would not give; the first generator multiplied in every place; the sign read from the
+// last column.
 pub fn sheet_to_operator(bytes: &[u8], out: &mut [u8]) -> Answer
     ensures { λ r. ⌜ OperatorPromise (now (bytes .entry)) (now (out .entry)) (now (out .exit)) r ⌝ }
 {

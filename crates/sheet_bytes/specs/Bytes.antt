@@ -22,10 +22,14 @@ longest = 35
 abbrev pub signByte : List ℕ → ℕ
 signByte bs = cond (isMinus (getD bs 0 0)) 1 0
 
--- "t bytes with the generator numbers, then six bytes for columns 1 to 6 of the Clifford", which "is now written with column 1 positive, and a
--- last byte": of the generators gs, and of the columns bs of what remains after them
+-- "The sheet's Clifford is now written with column 1 positive": the columns times their own sign
+abbrev pub writtenColumns : List ℕ → List ℕ
+writtenColumns bs = signed (signByte bs) bs
+
+-- "t bytes with the generator numbers, then six bytes for columns 1 to 6 of the Clifford", and the last byte: of the generators gs, and of the
+-- columns bs of what remains after them
 unfoldable pub sheetBytes : List ℕ → List ℕ → List ℕ
-sheetBytes gs bs = gs ++ (signed (signByte bs) bs ++ (signByte bs ∷ []))
+sheetBytes gs bs = gs ++ (writtenColumns bs ++ (signByte bs ∷ []))
 
 -- the sheet of an operator
 unfoldable pub sheet : ℕ → List ℤ → List ℕ

@@ -74,6 +74,14 @@ pub fn columns_from(bytes: &[u8], at: usize, sign: u8) -> [u8; 6]
     columns
 }
 
+// Whether six column bytes are those of a Clifford.
+fn is_clifford(columns: [u8; 6]) -> bool
+    requires { ⌜ areColumnBytes columns ≡ true ⌝ }
+    ensures { λ r. ⌜ r ≡ isClifford columns ⌝ }
+{
+    clifford::rows_differ(columns) && sign::is_even(columns)
+}
+
 // Whether the last byte is above 1, or column 1 negative.
 fn has_wrong_sign(columns: [u8; 6], sign: u8) -> bool
     ensures { λ r. ⌜ r ≡ hasWrongSign columns sign ⌝ }
@@ -88,10 +96,7 @@ fn columns_refusal(columns: [u8; 6], sign: u8) -> u8
     if !clifford::are_column_bytes(columns) {
         return 11;
     }
-    if !clifford::rows_differ(columns) {
-        return 12;
-    }
-    if !sign::is_even(columns) {
+    if !is_clifford(columns) {
         return 12;
     }
     if has_wrong_sign(columns, sign) {

@@ -52,7 +52,7 @@ pub fn end_line(word: &[u8], answer: Answer) {
 
 // The count and the sheet of an operator file.
 pub fn show_cut(file: &[u8]) {
-    let mut sheet = [UNWRITTEN; 35];
+    let mut sheet = [UNWRITTEN; sheet_bytes::LONGEST];
     show_answer(b": count ", operator::operator_to_sheet(file, &mut sheet));
     show_sheet(b", sheet", front(&sheet));
     show(b"\n");
@@ -66,7 +66,7 @@ pub fn cut_case(name: &[u8], file: [u8; 73]) {
 
 // An operator file, by its count alone, or by its refusal.
 pub fn count_case(name: &[u8], file: [u8; 73]) {
-    let mut sheet = [UNWRITTEN; 35];
+    let mut sheet = [UNWRITTEN; sheet_bytes::LONGEST];
     show(name);
     end_line(b": count ", operator::operator_to_sheet(&file, &mut sheet));
 }

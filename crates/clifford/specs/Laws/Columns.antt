@@ -11,6 +11,7 @@ use native.Mathlib.Decide.{ℕ-discrete, decLt}
 use lib.Dec.{T, eqb, leb, eqb→eq, leb→le}
 use lib.IntN.{ℤ, pos, negsuc, natAbs, _*ℤ_, *ℤ-zero, zero-*ℤ, pos-ne-negsuc}
 use lib.ListN.{length, getD, length-map, List·getD-map}
+use lib.Seq.{ext-getD}
 use borrow.Author.Tests.{eq-eqb, ne-eqb, eqb-false, le-leb, lt-leb, not-true}
 use Rattle.matrix.specs.Range.{sum, total}
 use Rattle.matrix.specs.Integer.{equals}
@@ -31,7 +32,7 @@ abbrev pub entryOf : ℕ → ℤ
 entryOf b = cond (isMinus b) (negsuc 0) (pos 1)
 
 -- what a column byte is
-byte-cases : (b : ℕ) → isColumnByte b ≡ true → ((1 ≤ b) × (b ≤ 6)) ⊎ ((129 ≤ b) × (b ≤ 134))
+pub byte-cases : (b : ℕ) → isColumnByte b ≡ true → ((1 ≤ b) × (b ≤ 6)) ⊎ ((129 ≤ b) × (b ≤ 134))
 byte-cases b e =
     or-elim (leb 1 b && leb b 6) (leb 129 b && leb b 134) _ (true-T e)
     (λ t. inl (leb→le 1 b (left (leb 1 b) _ t), leb→le b 6 (right (leb 1 b) _ t)))
@@ -319,7 +320,7 @@ matrix-permutation M o = record {
         signs (isMinus b) (isMinus b′) (rw (z, δ-same (rowOf b)) at p)
 
 -- equal columns have equal bytes: the entry in a byte's own row is its sign
-pub same-byte : (b b′ : ℕ) → isColumnByte b ≡ true → isColumnByte b′ ≡ true → ((s : ℕ) → s < 6 → columnEntry b′ s ≡ columnEntry b s) → b ≡ b′
+same-byte : (b b′ : ℕ) → isColumnByte b ≡ true → isColumnByte b′ ≡ true → ((s : ℕ) → s < 6 → columnEntry b′ s ≡ columnEntry b s) → b ≡ b′
 same-byte b b′ v w h =
     let at : entryOf b′ *ℤ δ (rowOf b) (rowOf b′) ≡ entryOf b =
     sym (column-entry b′ w (rowOf b) (row-lt b v)) ∙ h (rowOf b) (row-lt b v) ∙ column-entry b v (rowOf b) (row-lt b v)
@@ -338,6 +339,12 @@ same-byte b b′ v w h =
     nonzero : (s : Bool) → cond s (negsuc 0) (pos 1) ≡ pos 0 → ⊥
     nonzero true e = pos-ne-negsuc 0 0 (sym e)
     nonzero false e = pos-nz 1 (omega arith) e
+
+-- one matrix has one set of column bytes
+pub columns-unique : (bs cs : List ℕ) → Permutation bs → Permutation cs → Same 6 (columnsMatrix bs) (columnsMatrix cs) → bs ≡ cs
+columns-unique bs cs p q h =
+    let l = p .long in
+    ext-getD 0 bs cs (p .long ∙ sym (q .long)) (λ i u. same-byte (getD bs i 0) (getD cs i 0) (p .bytes i (omega arith)) (q .bytes i (omega arith)) (λ r hr. sym (h r i hr (omega arith))))
 
 -- six bytes of columns whose matrix is orthogonal are the bytes of that matrix
 bytes-of : (bs : List ℕ) → length bs ≡ 6 → ((c : ℕ) → c < 6 → isColumnByte (getD bs c 0) ≡ true) → Orthogonal (operator 0 (columnsMatrix bs)) → columnBytes (columnsMatrix bs) ≡ bs

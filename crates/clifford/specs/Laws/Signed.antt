@@ -1,20 +1,21 @@
 -- Column bytes times a sign: the matrix is multiplied by it, and it can be taken off again.
 use mathlib.Core.Path.{_≡_, refl, sym, ap, ap₂, _∙_}
 use mathlib.Core.Bool.{Bool, true, false, not, cond, _&&_, Bool·beq}
-use mathlib.Core.List.{List, [], _∷_}
-use Prim.Native.Nat.{ℕ, zero, suc, _<_, _≤_}
+use mathlib.Core.Logic.{⊎-elim}
+use mathlib.Core.List.{List, [], _∷_, map-id}
+use Prim.Native.Nat.{ℕ, zero, suc, _<_}
 use native.Mathlib.Omega.{arith}
-use lib.Dec.{T, eqb, leb, eqb→eq, leb→le}
+use lib.Dec.{T, eqb, eqb→eq}
 use lib.IntN.{pos, negsuc, _*ℤ_}
 use lib.ListN.{length, getD, length-map}
 use lib.Seq.{ext-getD}
 use Rattle.matrix.specs.Range.{everyFrom, every}
 use Rattle.matrix.specs.Matrix.{Same, δ, scaled}
-use Rattle.matrix.specs.Laws.Test.{left, right, or-elim, imp, imp-sound, T-true, true-T}
+use Rattle.matrix.specs.Laws.Test.{left, right, imp, imp-sound, T-true, true-T}
 use Rattle.matrix.specs.Laws.Integer.{*ℤ-unit-l, *ℤ-assoc}
 use Rattle.matrix.specs.Laws.Range.{every-sound}
 use Rattle.clifford.specs.Columns.{columnEntry, columnsMatrix, isColumnByte, rowOf, isMinus, negated, signOf, signedByte, signed}
-use Rattle.clifford.specs.Laws.Columns.{entryOf, column-entry, same-byte, Permutation}
+use Rattle.clifford.specs.Laws.Columns.{entryOf, byte-cases, column-entry, Permutation}
 
 -- ---- one byte
 
@@ -48,10 +49,7 @@ negates-of b e =
     }
   where
     below : b < 135
-    below =
-        or-elim (leb 1 b && leb b 6) (leb 129 b && leb b 134) (b < 135) (true-T e)
-        (λ t. let h : b ≤ 6 = leb→le b 6 (right (leb 1 b) _ t) in omega arith)
-        (λ t. let h : b ≤ 134 = leb→le b 134 (right (leb 129 b) _ t) in omega arith)
+    below = ⊎-elim (λ (l, u). omega arith) (λ (l, u). omega arith) (byte-cases b e)
 
     beq-sound : (a b : Bool) → T (Bool·beq a b) → a ≡ b
     beq-sound true true t = refl
@@ -96,12 +94,6 @@ signed-of s b e = record { byte = by (eqb s 0); row = rows (eqb s 0); twice = ag
 
 -- ---- six bytes
 
--- the columns of one matrix
-pub columns-unique : (bs cs : List ℕ) → Permutation bs → Permutation cs → Same 6 (columnsMatrix bs) (columnsMatrix cs) → bs ≡ cs
-columns-unique bs cs p q h =
-    let l = p .long in
-    ext-getD 0 bs cs (p .long ∙ sym (q .long)) (λ i u. same-byte (getD bs i 0) (getD cs i 0) (p .bytes i (omega arith)) (q .bytes i (omega arith)) (λ r hr. sym (h r i hr (omega arith))))
-
 pub signed-at : (s : ℕ) (bs : List ℕ) (c : ℕ) → c < length bs → getD (signed s bs) c 0 ≡ signedByte s (getD bs c 0)
 signed-at s [] c h = absurd (omega arith)
 signed-at s (b ∷ bs) zero h = refl
@@ -109,8 +101,7 @@ signed-at s (b ∷ bs) (suc c) h = signed-at s bs c (omega arith)
 
 -- the sign 0 is none
 pub signed-none : (bs : List ℕ) → signed 0 bs ≡ bs
-signed-none [] = refl
-signed-none (b ∷ bs) = ap (λ x. b ∷ x) (signed-none bs)
+signed-none bs = map-id bs
 
 module _ (s : ℕ) (bs : List ℕ) (p : Permutation bs) where
   at : (c : ℕ) → c < 6 → getD (signed s bs) c 0 ≡ signedByte s (getD bs c 0)

@@ -16,7 +16,7 @@ use Rattle.matrix.specs.Operator.{Surd, whole, root, raised, Equal, Oper
 use Rattle.matrix.specs.Laws.Integer.{+ℤ-swap, *ℤ-distr-r, *ℤ-distr-l, *ℤ-unit-l, *ℤ-unit-r, *ℤ-left-comm, *ℤ-cancel-l, pos-nz, double-cancel, positive-of-times, times-positive, square-size}
 use Rattle.matrix.specs.Laws.Ring.{var, num, _:+_, _:*_, ring}
 use Rattle.matrix.specs.Laws.Sum.{sum-cong, sum-zero, term-le-sum, δ-same}
-use Rattle.matrix.specs.Laws.Matrix.{product-assoc, product-id-r, product-scaled-r, orthogonal-product}
+use Rattle.matrix.specs.Laws.Matrix.{product-assoc, orthogonal-product}
 use Rattle.matrix.specs.Laws.Determinant.{det-cong, det-scaled}
 
 -- ---- powers of √2
@@ -158,16 +158,6 @@ negative-orthogonal {A} o = record { rows = λ i j hi hj. sum-cong (λ c hc. twi
   where
     twice : (x y : ℤ) → negsuc 0 *ℤ x *ℤ (negsuc 0 *ℤ y) ≡ x *ℤ y
     twice x y = ring (x ∷ y ∷ []) (num (negsuc 0) :* var 0 :* (num (negsuc 0) :* var 1)) (var 0 :* var 1) refl
-
--- −M is M times −1 on the right
-negative-times : (A : Operator) → SameOperator (negative A) (timesOperator A (negative (operator 0 δ)))
-negative-times A =
-    same-operator-of (negative A) (timesOperator A (negative (operator 0 δ))) (omega arith)
-    (λ i j hi hj. sym (ap (λ X. X i j) (product-scaled-r 6 (negsuc 0) (A .matrix) δ) ∙ ap (λ x. negsuc 0 *ℤ x) (product-id-r 6 (A .matrix) i j hi hj)))
-
-pub negative-cong : {A B : Operator} → SameOperator A B → SameOperator (negative A) (negative B)
-negative-cong {A} {B} h =
-    same-operator-trans (negative-times A) (same-operator-trans (times-same h (same-operator-refl (negative (operator 0 δ)))) (same-operator-sym (negative-times B)))
 
 pub same-orthogonal : {A B : Operator} → SameOperator A B → Orthogonal A → Orthogonal B
 same-orthogonal {A} {B} h o = record { rows = λ i j hi hj. at i j hi hj }

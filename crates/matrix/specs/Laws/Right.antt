@@ -76,15 +76,13 @@ module _ (D : Matrix) (d : Orthogonal (operator 0 D)) where
       off : (r : ℕ) → r < 6 → rowMask (product 6 (product 6 M D) (transpose D)) r ≡ rowMask M r
       off = mask-cong (product 6 (product 6 M D) (transpose D)) M (taken-off M)
 
-  -- and the product of a pair that cannot be halved cannot be halved either
-  reduced-right : (k : ℕ) (M : Matrix) → Reduced (operator k M) → Reduced (operator k (entry (listed (product 6 M D))))
-  reduced-right k M r = record {
-    small = λ e. r .small
-        (λ i j hi hj.
-        let (y, q) = even-times (product 6 M D) (transpose D) (λ r c hr hc. let (x, p) = e r c hr hc in (x, sym (entry-listed (product 6 M D) r c hr hc) ∙ p)) i j hi hj in
-        (y, sym (taken-off M i j hi hj) ∙ q));
-  }
-
-  -- so that it is its own least form
+  -- and the product of a pair that cannot be halved cannot be halved either, and is its own least form
   pub least-right : (k : ℕ) (M : Matrix) → Reduced (operator k M) → leastForm k (listed (product 6 M D)) ≡ record { exponent = k; matrix = listed (product 6 M D) }
-  least-right k M r = least-reduced k (listed (product 6 M D)) (reduced-right k M r)
+  least-right k M r =
+      least-reduced k (listed (product 6 M D))
+      (record {
+        small = λ e. r .small
+            (λ i j hi hj.
+            let (y, q) = even-times (product 6 M D) (transpose D) (λ r c hr hc. let (x, p) = e r c hr hc in (x, sym (entry-listed (product 6 M D) r c hr hc) ∙ p)) i j hi hj in
+            (y, sym (taken-off M i j hi hj) ∙ q));
+      })

@@ -15,7 +15,7 @@ use Rattle.matrix.specs.Laws.Test.{T-true, true-T, same-list-refl, and-left, an
 use Rattle.matrix.specs.Laws.Range.{every-complete}
 use Rattle.matrix.specs.Laws.Operator.{same-operator-sym, same-operator-trans, same-orthogonal, same-proper}
 use Rattle.matrix.specs.Laws.Array.{listed-same, length-listed}
-use Rattle.clifford.specs.Columns.{columnsMatrix, isColumnByte, isMinus, signed, arePermutation, isEven, Clifford}
+use Rattle.clifford.specs.Columns.{columnsMatrix, isColumnByte, isMinus, arePermutation, isEven, Clifford}
 use Rattle.clifford.specs.Laws.Columns.{Permutation, permutation-sound, permutation-complete, columns-valid, columns-orthogonal, orthogonal-permutation, orthogonal-clifford, clifford-orthogonal}
 use Rattle.clifford.specs.Laws.Signed.{signed-permutation}
 use Rattle.sign.specs.Laws.Sign.{even-proper, proper-even, signed-even}
@@ -28,7 +28,7 @@ use Rattle.operator.specs.Promise.{fileSheet}
 use Rattle.acceptance.specs.Laws.Acceptance as file
 use Rattle.acceptance.specs.Laws.Cutting.{even-is-proper}
 use Rattle.operator.specs.Laws.Promise.{file-cutting, count-small, sheet-length, sheet-multiplies}
-use Rattle.sheet_bytes.specs.Bytes.{shortest, longest, signByte, sheet, sheetOf, sheetColumns, sheetSign, sheetOperator}
+use Rattle.sheet_bytes.specs.Bytes.{shortest, longest, signByte, writtenColumns, sheet, sheetOf, sheetColumns, sheetSign, sheetOperator}
 use Rattle.sheet_bytes.specs.Sheet.{isNumber, areNumbers, isClifford, hasWrongSign, sheetRefusal, sheetLeast}
 use Rattle.sheet_bytes.specs.Laws.Bytes.{numbers-back, columns-back, sign-back, positive-first}
 use Rattle.sheet_bytes.specs.Laws.Sheet.{columnsLeft, left-permutation, same-sheet}
@@ -53,11 +53,7 @@ module _ (b : List ℕ) (z : fileRefusal b ≡ 0) where
   columns-left : Permutation (fileColumns b)
   columns-left = left-permutation (fileExponent b) (fileMatrix b) (file.accepted b z .entries .orthogonal)
 
-  -- the columns as they are written
-  abbrev written : List ℕ
-  written = signed (signByte (fileColumns b)) (fileColumns b)
-
-  columns-written : Permutation written
+  columns-written : Permutation (writtenColumns (fileColumns b))
   columns-written = signed-permutation (signByte (fileColumns b)) (fileColumns b) columns-left
 
   numbers-pass : areNumbers (fileSheet b) ≡ true
@@ -71,17 +67,17 @@ module _ (b : List ℕ) (z : fileRefusal b ≡ 0) where
       subst (λ x. (1 ≤ x) × (x ≤ 15)) (ap (λ x. getD x i 0) (sym (numbers-back (fileNumbers b) (fileColumns b) (columns-left .long))) ∙ getD-take (length (fileSheet b) - shortest) (fileSheet b) i 0 h) (file-cutting b z .numbers i (omega arith)) in
       rw (le-leb 1 (getD (fileSheet b) i 0) (g .0), le-leb (getD (fileSheet b) i 0) 15 (g .1)))
 
-  clifford-passes : isClifford written ≡ true
+  clifford-passes : isClifford (writtenColumns (fileColumns b)) ≡ true
   clifford-passes =
       let a = file.accepted b z .entries in
       rw (
-        permutation-complete written columns-written,
+        permutation-complete (writtenColumns (fileColumns b)) columns-written,
         signed-even (signByte (fileColumns b)) (fileColumns b) columns-left,
         even-is-proper (fileExponent b) (fileMatrix b) (a .orthogonal),
         T-true (isProper (entry (fileMatrix b))) (a .proper .positive .lt),
       )
 
-  sign-passes : hasWrongSign written (signByte (fileColumns b)) ≡ false
+  sign-passes : hasWrongSign (writtenColumns (fileColumns b)) (signByte (fileColumns b)) ≡ false
   sign-passes = rw (small (isMinus (getD (fileColumns b) 0 0)), positive-first (fileColumns b) columns-left)
     where
       small : (t : Bool) → ltb 1 (cond t 1 0) ≡ false
@@ -100,8 +96,8 @@ module _ (b : List ℕ) (z : fileRefusal b ≡ 0) where
   file-sheet-read =
       let l = sheet-length b z in
       let u = count-small b z in
-      let columns : sheetColumns (fileSheet b) ≡ written = columns-back (fileNumbers b) (fileColumns b) (columns-left .long) in
-      let sign : sheetSign (fileSheet b) ≡ signByte (fileColumns b) = sign-back (fileNumbers b) (fileColumns b) (columns-left .long) in
+      let columns : sheetColumns (fileSheet b) ≡ writtenColumns (fileColumns b) = columns-back (fileNumbers b) (fileColumns b) (columns-left .long) in
+      let sign : sheetSign (fileSheet b) ≡ signByte (fileColumns b) = sign-back (fileNumbers b) (fileColumns b) in
       let same : sameList (sheetOf (sheetOperator (fileSheet b))) (fileSheet b) ≡ true = subst (λ x. sameList x (fileSheet b) ≡ true) (sym again) (same-list-refl (fileSheet b)) in
       rw (
         le-ltb (length (fileSheet b)) shortest (omega arith),
@@ -110,7 +106,7 @@ module _ (b : List ℕ) (z : fileRefusal b ≡ 0) where
         same,
         columns,
         sign,
-        columns-valid written (permutation-complete written columns-written),
+        columns-valid (writtenColumns (fileColumns b)) (permutation-complete (writtenColumns (fileColumns b)) columns-written),
         clifford-passes,
         sign-passes,
       )

@@ -4,11 +4,11 @@ use Prim.Native.Nat.{ℕ, _+_, _-_, _≤_, _<_}
 use native.Mathlib.Omega.{arith}
 use mathlib.Core.List.{List, [], _∷_, _++_}
 use lib.ListN.{length, getD, take, length-map, List·getD-append}
-use lib.Seq.{length-take-le, getD-take, getD-append-add}
+use lib.Seq.{length-take-le, getD-take, getD-append-add, getD-at}
 use borrow.Author.Needs.{needs}
-use Rattle.clifford.specs.Columns.{signedByte, signed}
+use Rattle.clifford.specs.Columns.{signedByte}
 use Rattle.clifford.specs.Laws.Signed.{signed-at}
-use Rattle.sheet_bytes.specs.Bytes.{signByte, sheetBytes}
+use Rattle.sheet_bytes.specs.Bytes.{signByte, writtenColumns, sheetBytes}
 use Rattle.sheet_bytes.proofs.sheet_byte.Statement.{statement}
 use Rattle.sheet_bytes.proofs.sheet_byte.Tie as tie
 
@@ -17,12 +17,12 @@ module _ (count n : ℕ) (numbers columns : List ℕ) (h : count ≤ 60) (l : le
   sign = signByte columns
 
   abbrev rest : List ℕ
-  rest = signed sign columns ++ (sign ∷ [])
+  rest = writtenColumns columns ++ sign ∷ []
 
   taken : length (take count numbers) ≡ count
   taken = length-take-le count numbers (omega arith)
 
-  six : length (signed sign columns) ≡ 6
+  six : length (writtenColumns columns) ≡ 6
   six = length-map columns (signedByte sign) ∙ m
 
   front : n < count → getD numbers n 0 ≡ getD (sheetBytes (take count numbers) columns) n 0
@@ -37,14 +37,12 @@ module _ (count n : ℕ) (numbers columns : List ℕ) (h : count ≤ 60) (l : le
       ap (λ x. getD (take count numbers ++ rest) x 0) (sym j) ∙ getD-append-add (take count numbers) rest (n - count) 0
 
   last : n ≡ count + 6 → sign ≡ getD (sheetBytes (take count numbers) columns) n 0
-  last u =
-      let j : length (signed sign columns) + 0 ≡ n - count = let e = six in omega arith in
-      sym (behind (omega arith) ∙ ap (λ x. getD rest x 0) (sym j) ∙ getD-append-add (signed sign columns) (sign ∷ []) 0 0)
+  last u = sym (behind (omega arith) ∙ getD-at (writtenColumns columns) sign [] 0 (n - count) (let e = six in omega arith))
 
   column : count ≤ n → n < count + 6 → signedByte sign (getD columns (n - count) 0) ≡ getD (sheetBytes (take count numbers) columns) n 0
   column u v =
       sym
-      (behind u ∙ List·getD-append (signed sign columns) (sign ∷ []) 0 (n - count) (let e = six in omega arith)
+      (behind u ∙ List·getD-append (writtenColumns columns) (sign ∷ []) 0 (n - count) (let e = six in omega arith)
       ∙ signed-at sign columns (n - count) (omega arith))
 
 array-read-result : tie.Need-array-read-result

@@ -1,11 +1,11 @@
 -- The parts of a sheet are found in its bytes, and with its sign taken into the Clifford a sheet's operator is a normal form.
-use mathlib.Core.Path.{_≡_, refl, sym, ap, ap₂, _∙_}
+use mathlib.Core.Path.{_≡_, refl, sym, ap, _∙_}
 use mathlib.Core.Bool.{Bool, true, false, not, cond}
 use mathlib.Core.List.{List, [], _∷_, _++_, append-assoc}
 use Prim.Native.Nat.{ℕ, _+_, _-_}
 use native.Mathlib.Omega.{arith}
 use lib.ListN.{length, getD, take, drop, length-append, length-map}
-use lib.Seq.{take-at, drop-at, getD-append-add}
+use lib.Seq.{take-at, drop-at, getD-at}
 use Rattle.matrix.specs.Matrix.{Same, scaled}
 use Rattle.matrix.specs.Operator.{SameOperator}
 use Rattle.matrix.specs.Laws.Operator.{same-operator-of}
@@ -14,52 +14,60 @@ use Rattle.clifford.specs.Laws.Columns.{Permutation}
 use Rattle.clifford.specs.Laws.Signed.{negated-minus, signed-at, signed-permutation, signed-matrix, signed-twice}
 use Rattle.reduction.specs.Reduction.{normalForm}
 use Rattle.reduction.specs.Laws.NormalForm.{normal-exponent, normal-cong, normal-scaled}
-use Rattle.sheet_bytes.specs.Bytes.{shortest, signByte, sheetBytes, sheetNumbers, sheetColumns, sheetSign, timesSign, sheetOperator, beforeSign}
+use Rattle.sheet_bytes.specs.Bytes.{shortest, signByte, writtenColumns, sheetBytes, sheetNumbers, sheetColumns, sheetSign, timesSign, sheetOperator, beforeSign}
 
 -- ---- the parts
 
+-- a byte behind others: the last one, and those before it
+before-last : (xs : List ℕ) (x : ℕ) → beforeSign (xs ++ x ∷ []) ≡ xs
+before-last xs x = let l = length-append xs (x ∷ []) in take-at xs (x ∷ []) (length (xs ++ x ∷ []) - 1) (omega arith)
+
+last-byte : (xs : List ℕ) (x : ℕ) → sheetSign (xs ++ x ∷ []) ≡ x
+last-byte xs x = let l = length-append xs (x ∷ []) in getD-at xs x [] 0 (length (xs ++ x ∷ []) - 1) (omega arith)
+
+module _ (gs bs : List ℕ) where
+  -- the sign is behind the rest
+  sign-last : sheetBytes gs bs ≡ (gs ++ writtenColumns bs) ++ signByte bs ∷ []
+  unfolding sheetBytes
+  sign-last = sym (append-assoc gs (writtenColumns bs) (signByte bs ∷ []))
+
+  pub sign-back : sheetSign (sheetBytes gs bs) ≡ signByte bs
+  sign-back = ap sheetSign sign-last ∙ last-byte (gs ++ writtenColumns bs) (signByte bs)
+
+  pub before-sign : beforeSign (sheetBytes gs bs) ≡ gs ++ writtenColumns bs
+  before-sign = ap beforeSign sign-last ∙ before-last (gs ++ writtenColumns bs) (signByte bs)
+
+  pub before-and-sign : sheetBytes gs bs ≡ beforeSign (sheetBytes gs bs) ++ signByte bs ∷ []
+  before-and-sign = sign-last ∙ ap (λ x. x ++ signByte bs ∷ []) (sym before-sign)
+
 module _ (gs bs : List ℕ) (l : length bs ≡ 6) where
-  abbrev written : List ℕ
-  written = signed (signByte bs) bs
-
-  written-long : length written ≡ 6
+  written-long : length (writtenColumns bs) ≡ 6
   written-long = length-map bs (signedByte (signByte bs)) ∙ l
-
-  rest-long : length (written ++ (signByte bs ∷ [])) ≡ shortest
-  rest-long = let a = length-append written (signByte bs ∷ []) in let b = written-long in omega arith
 
   pub length-bytes : length (sheetBytes gs bs) ≡ length gs + shortest
   unfolding sheetBytes
-  length-bytes = length-append gs (written ++ (signByte bs ∷ [])) ∙ ap (λ n. length gs + n) rest-long
+  length-bytes =
+      let a = length-append gs (writtenColumns bs ++ signByte bs ∷ []) in
+      let b = length-append (writtenColumns bs) (signByte bs ∷ []) in
+      let c = written-long in
+      omega arith
 
   count-bytes : length (sheetBytes gs bs) - shortest ≡ length gs
   count-bytes = let e = length-bytes in omega arith
 
   pub numbers-back : sheetNumbers (sheetBytes gs bs) ≡ gs
   unfolding sheetBytes
-  numbers-back = ap (λ n. take n (sheetBytes gs bs)) count-bytes ∙ take-at gs (written ++ (signByte bs ∷ [])) (length gs) refl
+  numbers-back = ap (λ n. take n (sheetBytes gs bs)) count-bytes ∙ take-at gs (writtenColumns bs ++ signByte bs ∷ []) (length gs) refl
 
-  pub columns-back : sheetColumns (sheetBytes gs bs) ≡ signed (signByte bs) bs
+  pub columns-back : sheetColumns (sheetBytes gs bs) ≡ writtenColumns bs
   unfolding sheetBytes
   columns-back =
       ap (λ n. take 6 (drop n (sheetBytes gs bs))) count-bytes
-      ∙ ap (take 6) (drop-at gs (written ++ (signByte bs ∷ [])) (length gs) refl)
-      ∙ take-at written (signByte bs ∷ []) 6 written-long
-
-  pub before-sign : beforeSign (sheetBytes gs bs) ≡ gs ++ signed (signByte bs) bs
-  unfolding sheetBytes
-  before-sign =
-      let n : length (sheetBytes gs bs) - 1 ≡ length (gs ++ written) = let a = length-bytes in let b = length-append gs written in let c = written-long in omega arith in
-      ap₂ take n (sym (append-assoc gs written (signByte bs ∷ []))) ∙ take-at (gs ++ written) (signByte bs ∷ []) (length (gs ++ written)) refl
-
-  pub sign-back : sheetSign (sheetBytes gs bs) ≡ signByte bs
-  unfolding sheetBytes
-  sign-back =
-      let n : length (sheetBytes gs bs) - 1 ≡ length (gs ++ written) + 0 = let a = length-bytes in let b = length-append gs written in let c = written-long in omega arith in
-      ap₂ (λ x i. getD x i 0) (sym (append-assoc gs written (signByte bs ∷ []))) n ∙ getD-append-add (gs ++ written) (signByte bs ∷ []) 0 0
+      ∙ ap (take 6) (drop-at gs (writtenColumns bs ++ signByte bs ∷ []) (length gs) refl)
+      ∙ take-at (writtenColumns bs) (signByte bs ∷ []) 6 written-long
 
 -- "written with column 1 positive"
-pub positive-first : (bs : List ℕ) → Permutation bs → isMinus (getD (signed (signByte bs) bs) 0 0) ≡ false
+pub positive-first : (bs : List ℕ) → Permutation bs → isMinus (getD (writtenColumns bs) 0 0) ≡ false
 positive-first bs p =
     let l = p .long in
     ap isMinus (signed-at (signByte bs) bs 0 (omega arith)) ∙ go (isMinus b) refl
@@ -88,5 +96,5 @@ module _ (s : ℕ) (gs bs : List ℕ) (p : Permutation bs) where
 -- what is written stands for the generators times what remained after them
 pub bytes-operator : (gs bs : List ℕ) → Permutation bs → SameOperator (sheetOperator (sheetBytes gs bs)) (normalForm gs (columnsMatrix bs))
 bytes-operator gs bs p =
-    rw (sign-back gs bs (p .long), numbers-back gs bs (p .long), columns-back gs bs (p .long))
-    (rw (signed-twice (signByte bs) bs p) at (times-sign (signByte bs) gs (signed (signByte bs) bs) (signed-permutation (signByte bs) bs p)))
+    rw (sign-back gs bs, numbers-back gs bs (p .long), columns-back gs bs (p .long))
+    (rw (signed-twice (signByte bs) bs p) at (times-sign (signByte bs) gs (writtenColumns bs) (signed-permutation (signByte bs) bs p)))

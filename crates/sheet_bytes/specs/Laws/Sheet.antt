@@ -1,32 +1,33 @@
 -- Sheets of orthogonal operators of every exponent: a sheet gives back its operator, sign included. Two operators have one sheet exactly if they
 -- stand for the same matrix, and sheets that agree before the last byte exactly if they do so up to sign.
 use mathlib.Core.Path.{_≡_, refl, sym, ap, ap₂, _∙_, subst}
-use mathlib.Core.Logic.{inl, inr, _↔_}
+use mathlib.Core.Logic.{_⊎_, inl, inr, _↔_}
 use mathlib.Core.Bool.{Bool, true, false, not, cond}
-use mathlib.Core.List.{List, _++_}
-use Prim.Native.Nat.{ℕ, _+_}
+use mathlib.Core.List.{List, [], _∷_, _++_}
+use Prim.Native.Nat.{ℕ, _+_, _-_}
 use native.Mathlib.Omega.{arith}
-use lib.Dec.{eqb}
-use lib.IntN.{ℤ, pos, negsuc, _*ℤ_}
-use lib.ListN.{length, getD, take, drop, length-append}
-use lib.Seq.{take-at, drop-at}
-use Rattle.matrix.specs.Matrix.{Matrix, scaled, entry}
-use Rattle.matrix.specs.Operator.{Operator, operator, negative, SameOperator, SameUpToSign, Orthogonal}
-use Rattle.matrix.specs.Laws.Integer.{*ℤ-unit-l, *ℤ-assoc}
-use Rattle.matrix.specs.Laws.Operator.{same-operator-sym, same-operator-trans, same-operator-of, negative-cong}
+use lib.IntN.{ℤ, negsuc, _*ℤ_}
+use lib.ListN.{length, getD}
+use Rattle.matrix.specs.Matrix.{scaled, entry}
+use Rattle.matrix.specs.Operator.{operator, SameOperator, SameUpToSign, Orthogonal}
+use Rattle.matrix.specs.Laws.Operator.{same-operator-sym, same-operator-trans}
 use Rattle.matrix.specs.Laws.Array.{entry-listed, length-listed, same-least-form}
-use Rattle.clifford.specs.Columns.{columnsMatrix, columnBytes, isMinus, signOf, signed}
-use Rattle.clifford.specs.Laws.Columns.{Permutation, matrix-columns, matrix-permutation}
-use Rattle.clifford.specs.Laws.Signed.{columns-unique, negated-minus, signed-at, signed-none, signed-permutation, signed-matrix, signed-twice}
-use Rattle.reduction.specs.Reduction.{generators, remainder, count, taken, remaining, normalForm}
+use Rattle.clifford.specs.Columns.{columnsMatrix, columnBytes, isMinus, signed}
+use Rattle.clifford.specs.Laws.Columns.{Permutation, matrix-columns, matrix-permutation, columns-unique}
+use Rattle.clifford.specs.Laws.Signed.{negated-minus, signed-at, signed-none, signed-permutation, signed-matrix, signed-twice}
+use Rattle.reduction.specs.Reduction.{generators, remainder, count, taken, remaining}
 use Rattle.reduction.specs.Laws.NormalForm.{cutting, normal-form-same}
 use Rattle.reduction.specs.Laws.Negative.{negativeOf, negative-same, negative-array-orthogonal, taken-negative, remaining-negative}
-use Rattle.sheet_bytes.specs.Bytes.{shortest, signByte, sheetBytes, sheet, sheetNumbers, sheetColumns, sheetSign, sheetOperator, beforeSign}
-use Rattle.sheet_bytes.specs.Laws.Bytes.{length-bytes, numbers-back, columns-back, before-sign, bytes-operator}
+use Rattle.sheet_bytes.specs.Bytes.{shortest, signByte, writtenColumns, sheetBytes, sheet, sheetOperator, beforeSign}
+use Rattle.sheet_bytes.specs.Laws.Bytes.{length-bytes, before-sign, before-and-sign, bytes-operator}
 
 -- the columns of what remains
 abbrev pub columnsLeft : ℕ → List ℤ → List ℕ
 columnsLeft k m = columnBytes (entry (remaining k m))
+
+before-and-sign-of : (k : ℕ) (m : List ℤ) → sheet k m ≡ beforeSign (sheet k m) ++ signByte (columnsLeft k m) ∷ []
+unfolding sheet
+before-and-sign-of k m = before-and-sign (taken k m) (columnsLeft k m)
 
 module _ (k : ℕ) (m : List ℤ) (o : Orthogonal (operator k (entry m))) where
   pub left-permutation : Permutation (columnsLeft k m)
@@ -57,14 +58,24 @@ module _ (k l : ℕ) (m n : List ℤ) (hm : length m ≡ 36) (hn : length n ≡ 
 
 -- ---- the negative
 
--- the columns of the negative are written as those of the matrix are
-signed-alike : (bs : List ℕ) → Permutation bs → signed (signByte (signed 1 bs)) (signed 1 bs) ≡ signed (signByte bs) bs
-signed-alike bs p =
-    ap (λ t. signed (cond t 1 0) (signed 1 bs)) (ap isMinus (signed-at 1 bs 0 (let l = p .long in omega arith)) ∙ negated-minus (getD bs 0 0) (p .bytes 0 (omega arith))) ∙ go (isMinus (getD bs 0 0))
-  where
-    go : (t : Bool) → signed (cond (not t) 1 0) (signed 1 bs) ≡ signed (cond t 1 0) bs
-    go true = signed-none (signed 1 bs)
-    go false = signed-twice 1 bs p ∙ sym (signed-none bs)
+-- the negative of six columns is written as they are, with the other sign
+module _ (bs : List ℕ) (p : Permutation bs) where
+  first-negated : isMinus (getD (signed 1 bs) 0 0) ≡ not (isMinus (getD bs 0 0))
+  first-negated = let l = p .long in ap isMinus (signed-at 1 bs 0 (omega arith)) ∙ negated-minus (getD bs 0 0) (p .bytes 0 (omega arith))
+
+  sign-negated : signByte (signed 1 bs) ≡ 1 - signByte bs
+  sign-negated = ap (λ t. cond t 1 0) first-negated ∙ go (isMinus (getD bs 0 0))
+    where
+      go : (t : Bool) → _≡_ {A = ℕ} (cond (not t) 1 0) (1 - cond t 1 0)
+      go true = refl
+      go false = refl
+
+  written-alike : writtenColumns (signed 1 bs) ≡ writtenColumns bs
+  written-alike = ap (λ t. signed (cond t 1 0) (signed 1 bs)) first-negated ∙ go (isMinus (getD bs 0 0))
+    where
+      go : (t : Bool) → signed (cond (not t) 1 0) (signed 1 bs) ≡ signed (cond t 1 0) bs
+      go true = signed-none (signed 1 bs)
+      go false = signed-twice 1 bs p ∙ sym (signed-none bs)
 
 module _ (k : ℕ) (m : List ℤ) (o : Orthogonal (operator k (entry m))) where
   -- what cutting −M leaves, by its columns
@@ -83,63 +94,49 @@ module _ (k : ℕ) (m : List ℤ) (o : Orthogonal (operator k (entry m))) where
   before-negative : beforeSign (sheet k (negativeOf m)) ≡ beforeSign (sheet k m)
   unfolding sheet
   before-negative =
-      let p = left-permutation k m o in
-      ap₂ (λ gs bs. beforeSign (sheetBytes gs bs)) (taken-negative k m o) columns-negative
-      ∙ before-sign (taken k m) (signed 1 (columnsLeft k m)) (signed-permutation 1 (columnsLeft k m) p .long)
-      ∙ ap (λ x. taken k m ++ x) (signed-alike (columnsLeft k m) p)
-      ∙ sym (before-sign (taken k m) (columnsLeft k m) (p .long))
+      before-sign (taken k (negativeOf m)) (columnsLeft k (negativeOf m))
+      ∙ ap₂ (λ gs bs. gs ++ writtenColumns bs) (taken-negative k m o) columns-negative
+      ∙ ap (λ x. taken k m ++ x) (written-alike (columnsLeft k m) (left-permutation k m o))
+      ∙ sym (before-sign (taken k m) (columnsLeft k m))
+
+  -- the sheet of −M has the other last byte, and no other difference
+  pub sheet-negative : sheet k (negativeOf m) ≡ beforeSign (sheet k m) ++ (1 - signByte (columnsLeft k m)) ∷ []
+  sheet-negative =
+      before-and-sign-of k (negativeOf m)
+      ∙ ap₂ (λ xs s. xs ++ s ∷ []) before-negative (ap signByte columns-negative ∙ sign-negated (columnsLeft k m) (left-permutation k m o))
 
 -- ---- up to sign
 
--- two lists, each before one of equal length
-append-split : (xs xs′ ys ys′ : List ℕ) → length ys ≡ length ys′ → xs ++ ys ≡ xs′ ++ ys′ → (xs ≡ xs′) × (ys ≡ ys′)
-append-split xs xs′ ys ys′ l e =
-    let t : length xs ≡ length xs′ = let a = ap length e in let b = length-append xs ys in let c = length-append xs′ ys′ in omega arith in (
-      sym (take-at xs ys (length xs) refl) ∙ ap (take (length xs)) e ∙ take-at xs′ ys′ (length xs) (sym t),
-      sym (drop-at xs ys (length xs) refl) ∙ ap (drop (length xs)) e ∙ drop-at xs′ ys′ (length xs) (sym t),
-    )
-
--- one operator with two signs
-signs : (A B : Operator) (e : ℕ) (N : Matrix) (s t : Bool) → SameOperator (operator e (scaled (cond s (pos 1) (negsuc 0)) N)) A → SameOperator (operator e (scaled (cond t (pos 1) (negsuc 0)) N)) B → SameUpToSign A B
-signs A B e N true true a b = inl (same-operator-trans (same-operator-sym a) b)
-signs A B e N false false a b = inl (same-operator-trans (same-operator-sym a) b)
-signs A B e N true false a b =
-    inr
-    (same-operator-trans (same-operator-sym a)
-    (same-operator-trans (same-operator-of (operator e (scaled (pos 1) N)) (negative (operator e (scaled (negsuc 0) N))) refl (λ i j hi hj. *ℤ-assoc (negsuc 0) (negsuc 0) (N i j))) (negative-cong b)))
-signs A B e N false true a b =
-    inr
-    (same-operator-trans (same-operator-sym a)
-    (same-operator-trans (same-operator-of (operator e (scaled (negsuc 0) N)) (negative (operator e (scaled (pos 1) N))) refl (λ i j hi hj. ap (λ x. negsuc 0 *ℤ x) (sym (*ℤ-unit-l (N i j))))) (negative-cong b)))
-
 module _ (k l : ℕ) (m n : List ℤ) (hm : length m ≡ 36) (hn : length n ≡ 36) (o : Orthogonal (operator k (entry m))) (p : Orthogonal (operator l (entry n))) where
+  abbrev other : List ℤ
+  other = negativeOf n
+
+  other-long : length other ≡ 36
+  other-long = length-listed (scaled (negsuc 0) (entry n))
+
   agree : SameUpToSign (operator k (entry m)) (operator l (entry n)) → beforeSign (sheet k m) ≡ beforeSign (sheet l n)
   agree (inl h) = ap beforeSign (same-sheet k l m n hm hn o p h)
   agree (inr h) =
-      ap beforeSign (same-sheet k l m (negativeOf n) hm (length-listed (scaled (negsuc 0) (entry n))) o (negative-array-orthogonal l n p) (same-operator-trans h (negative-same l n)))
-      ∙ before-negative l n p
+      ap beforeSign (same-sheet k l m other hm other-long o (negative-array-orthogonal l n p) (same-operator-trans h (negative-same l n))) ∙ before-negative l n p
 
-  -- the numbers and the columns stand before the sign
-  parts : beforeSign (sheet k m) ≡ beforeSign (sheet l n) → (sheetNumbers (sheet k m) ≡ sheetNumbers (sheet l n)) × (sheetColumns (sheet k m) ≡ sheetColumns (sheet l n))
-  unfolding sheet
-  parts e =
-      let a = left-permutation k m o in
-      let b = left-permutation l n p in
-      let cs = signed (signByte (columnsLeft k m)) (columnsLeft k m) in
-      let ds = signed (signByte (columnsLeft l n)) (columnsLeft l n) in
-      let six : length cs ≡ length ds = signed-permutation (signByte (columnsLeft k m)) (columnsLeft k m) a .long ∙ sym (signed-permutation (signByte (columnsLeft l n)) (columnsLeft l n) b .long) in
-      let (x, y) = append-split (taken k m) (taken l n) cs ds six (sym (before-sign (taken k m) (columnsLeft k m) (a .long)) ∙ e ∙ before-sign (taken l n) (columnsLeft l n) (b .long)) in (
-        numbers-back (taken k m) (columnsLeft k m) (a .long) ∙ x ∙ sym (numbers-back (taken l n) (columnsLeft l n) (b .long)),
-        columns-back (taken k m) (columnsLeft k m) (a .long) ∙ y ∙ sym (columns-back (taken l n) (columnsLeft l n) (b .long)),
-      )
+  -- the sheet is that of the one, or that of its negative, by the last byte
+  one-of-two : beforeSign (sheet k m) ≡ beforeSign (sheet l n) → (sheet k m ≡ sheet l n) ⊎ (sheet k m ≡ sheet l other)
+  one-of-two e = go (isMinus (getD (columnsLeft k m) 0 0)) (isMinus (getD (columnsLeft l n) 0 0)) (before-and-sign-of k m) (before-and-sign-of l n) (sheet-negative l n p)
+    where
+      go : (s t : Bool) → sheet k m ≡ beforeSign (sheet k m) ++ cond s 1 0 ∷ [] → sheet l n ≡ beforeSign (sheet l n) ++ cond t 1 0 ∷ []
+          → sheet l other ≡ beforeSign (sheet l n) ++ (1 - cond t 1 0) ∷ [] → (sheet k m ≡ sheet l n) ⊎ (sheet k m ≡ sheet l other)
+      go true true a b c = inl (a ∙ ap (λ x. x ++ 1 ∷ []) e ∙ sym b)
+      go true false a b c = inr (a ∙ ap (λ x. x ++ 1 ∷ []) e ∙ sym c)
+      go false true a b c = inr (a ∙ ap (λ x. x ++ 0 ∷ []) e ∙ sym c)
+      go false false a b c = inl (a ∙ ap (λ x. x ++ 0 ∷ []) e ∙ sym b)
 
-  same-signs : beforeSign (sheet k m) ≡ beforeSign (sheet l n) → SameUpToSign (operator k (entry m)) (operator l (entry n))
-  same-signs e =
-      let (a, b) = parts e in
-      let A = normalForm (sheetNumbers (sheet k m)) (columnsMatrix (sheetColumns (sheet k m))) in
-      signs (operator k (entry m)) (operator l (entry n)) (A .exponent) (A .matrix) (eqb (sheetSign (sheet k m)) 0) (eqb (sheetSign (sheet l n)) 0) (sheet-back k m o)
-      (subst (λ x. SameOperator (operator (x .exponent) (scaled (signOf (sheetSign (sheet l n))) (x .matrix))) (operator l (entry n))) (sym (ap₂ (λ gs bs. normalForm gs (columnsMatrix bs)) a b)) (sheet-back l n p))
+  agreed : beforeSign (sheet k m) ≡ beforeSign (sheet l n) → SameUpToSign (operator k (entry m)) (operator l (entry n))
+  agreed e = go (one-of-two e)
+    where
+      go : (sheet k m ≡ sheet l n) ⊎ (sheet k m ≡ sheet l other) → SameUpToSign (operator k (entry m)) (operator l (entry n))
+      go (inl f) = inl (sheet-same k l m n hm hn o p f)
+      go (inr f) = inr (same-operator-trans (sheet-same k l m other hm other-long o (negative-array-orthogonal l n p) f) (same-operator-sym (negative-same l n)))
 
   -- "Two operators agree up to sign exactly when their sheets agree before that byte"
   pub same-up-to-sign : SameUpToSign (operator k (entry m)) (operator l (entry n)) ↔ (beforeSign (sheet k m) ≡ beforeSign (sheet l n))
-  same-up-to-sign = (agree, same-signs)
+  same-up-to-sign = (agree, agreed)
