@@ -96,10 +96,12 @@ fn columns_refusal(columns: [u8; 6], sign: u8) -> u8
     if !clifford::are_column_bytes(columns) {
         return 11;
     }
-    if !is_clifford(columns) {
+    let clifford = is_clifford(columns);
+    let wrong_sign = has_wrong_sign(columns, sign);
+    if !clifford {
         return 12;
     }
-    if has_wrong_sign(columns, sign) {
+    if wrong_sign {
         return 15;
     }
     0

@@ -19,21 +19,25 @@ returns c = rw (sym (c .before .are-column-bytes .ensures) ∙ not-true _ (c .if
 is-clifford-requires : tie.Need-is-clifford-requires
 is-clifford-requires c κs = bytes c
 
-returns-2 : tie.Need-returns-2
-returns-2 c = rw (bytes (c .before .before), sym (c .before .is-clifford .ensures) ∙ not-true _ (c .if2 .taken))
-
 has-wrong-sign-requires : tie.Need-has-wrong-sign-requires
 has-wrong-sign-requires c κs = search needs
 
+returns-2 : tie.Need-returns-2
+returns-2 c =
+    let clifford = c .before .before in
+    rw (bytes (clifford .before), sym (clifford .is-clifford .ensures) ∙ not-true _ (c .if2 .taken))
+
 returns-3 : tie.Need-returns-3
 returns-3 c =
-    let clifford = c .before .before in
-    rw (bytes (clifford .before .before), sym (clifford .before .is-clifford .ensures) ∙ not-false _ (clifford .if2 .left), sym (c .before .has-wrong-sign .ensures) ∙ c .if3 .taken)
+    let sign = c .before .before in
+    let clifford = sign .before in
+    rw (bytes (clifford .before), sym (clifford .is-clifford .ensures) ∙ not-false _ (c .before .if2 .left), sym (sign .has-wrong-sign .ensures) ∙ c .if3 .taken)
 
 returns-4 : tie.Need-returns-4
 returns-4 c =
-    let clifford = c .before .before in
-    rw (bytes (clifford .before .before), sym (clifford .before .is-clifford .ensures) ∙ not-false _ (clifford .if2 .left), sym (c .before .has-wrong-sign .ensures) ∙ c .if3 .left)
+    let sign = c .before .before in
+    let clifford = sign .before in
+    rw (bytes (clifford .before), sym (clifford .is-clifford .ensures) ∙ not-false _ (c .before .if2 .left), sym (sign .has-wrong-sign .ensures) ∙ c .if3 .left)
 
 pub columns-refusal-spec : {M : Type 1} → statement M
 columns-refusal-spec =
@@ -42,7 +46,7 @@ columns-refusal-spec =
     are-column-bytes-requires
     returns
     is-clifford-requires
-    returns-2
     has-wrong-sign-requires
+    returns-2
     returns-3
     returns-4)
