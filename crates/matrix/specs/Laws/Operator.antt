@@ -151,13 +151,13 @@ times-orthogonal {A} {B} p q = record {
       ∙ ap (λ m. pos m *ℤ δ i j) (sym (pow-add 2 (A .exponent) (B .exponent)));
 }
 
--- ---- being orthogonal or proper is a property of the matrix that the operator stands for
-
 pub negative-orthogonal : {A : Operator} → Orthogonal A → Orthogonal (negative A)
 negative-orthogonal {A} o = record { rows = λ i j hi hj. sum-cong (λ c hc. twice (A .matrix i c) (A .matrix j c)) ∙ o .rows i j hi hj }
   where
     twice : (x y : ℤ) → negsuc 0 *ℤ x *ℤ (negsuc 0 *ℤ y) ≡ x *ℤ y
     twice x y = ring (x ∷ y ∷ []) (num (negsuc 0) :* var 0 :* (num (negsuc 0) :* var 1)) (var 0 :* var 1) refl
+
+-- ---- being orthogonal or proper is a property of the matrix that the operator stands for
 
 pub same-orthogonal : {A B : Operator} → SameOperator A B → Orthogonal A → Orthogonal B
 same-orthogonal {A} {B} h o = record { rows = λ i j hi hj. at i j hi hj }
