@@ -4,13 +4,12 @@ use Prim.Native.Nat.{ℕ, _+_, _-_, _≤_}
 use native.Mathlib.Omega.{arith}
 use mathlib.Core.List.{List}
 use lib.ListN.{length, getD, take}
-use lib.Seq.{length-take-le}
 use denote.Ref.{now}
 use Rattle.matrix.specs.Laws.Range.{tabulate-is, Filled, filled-none, filled-more}
 use Rattle.file.specs.File.{written}
 use Rattle.file.specs.Laws.Written.{filled-written}
 use Rattle.sheet_bytes.specs.Bytes.{shortest, sheetBytes}
-use Rattle.sheet_bytes.specs.Laws.Bytes.{length-bytes}
+use Rattle.sheet_bytes.specs.Laws.Bytes.{length-held}
 use borrow.Author.Needs.{needs}
 use Rattle.operator.proofs.write_sheet.Statement.{statement}
 use Rattle.operator.proofs.write_sheet.Tie as tie
@@ -22,7 +21,7 @@ byte count numbers columns i = getD (sheetBytes (take count numbers) columns) i 
 whole : (count : ℕ) (numbers columns out₀ out : List ℕ) (n : ℕ) → count ≤ 60 → length numbers ≡ 60 → length columns ≡ 6 → n ≡ count + shortest → n ≤ length out₀
     → Filled 0 (byte count numbers columns) out₀ n out → out ≡ written out₀ (sheetBytes (take count numbers) columns)
 whole count numbers columns out₀ out n h l m e u f =
-    let t : length (sheetBytes (take count numbers) columns) ≡ n = let a = length-bytes (take count numbers) columns m in let b = length-take-le count numbers (omega arith) in omega arith in
+    let t = length-held count numbers columns (omega arith) m ∙ sym e in
     filled-written (byte count numbers columns) out₀ n out f u
     ∙ ap (written out₀) (sym (tabulate-is (byte count numbers columns) n 0 (sheetBytes (take count numbers) columns) t (λ i x. refl)))
 

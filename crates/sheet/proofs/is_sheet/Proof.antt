@@ -7,21 +7,18 @@ use mathlib.Core.Bool.{Bool, true, false}
 use mathlib.Core.Logic.{_≢_}
 use mathlib.Core.List.{List}
 use lib.ListN.{length, getD, take}
-use lib.Seq.{ext-getD, length-take-le}
+use lib.Seq.{ext-getD}
 use denote.Ref.{now}
 use Rattle.matrix.specs.List.{sameList}
 use Rattle.matrix.specs.Laws.Test.{same-list, same-list-refl}
 use Rattle.sheet_bytes.specs.Bytes.{shortest, sheetBytes}
-use Rattle.sheet_bytes.specs.Laws.Bytes.{length-bytes}
+use Rattle.sheet_bytes.specs.Laws.Bytes.{length-held}
 use borrow.Author.Needs.{needs}
 use Rattle.sheet.proofs.is_sheet.Statement.{statement}
 use Rattle.sheet.proofs.is_sheet.Tie as tie
 
 abbrev sheet-of : ℕ → List ℕ → List ℕ → List ℕ
 sheet-of count numbers columns = sheetBytes (take count numbers) columns
-
-sheet-long : (count : ℕ) (numbers columns : List ℕ) → count ≤ 60 → length numbers ≡ 60 → length columns ≡ 6 → length (sheet-of count numbers columns) ≡ count + shortest
-sheet-long count numbers columns h l m = let a = length-bytes (take count numbers) columns m in let b = length-take-le count numbers (omega arith) in omega arith
 
 -- lists that differ
 not-same : (xs ys : List ℕ) → xs ≢ ys → false ≡ sameList xs ys
@@ -55,7 +52,7 @@ add-if1 c = search needs
 returns : tie.Need-returns Inv-loop μ-loop
 returns c =
     let s = c .before .before in
-    let l = sheet-long (s .args .count) (s .args .numbers) (s .args .columns) (s .pre) (s .good .1 .1 .0 .1 .0 .1) (s .good .1 .1 .1 .0 .1 .0 .1) in
+    let l = length-held (s .args .count) (s .args .numbers) (s .args .columns) (omega (arith, s .pre, s .good .1 .1 .0 .1 .0 .1)) (s .good .1 .1 .1 .0 .1 .0 .1) in
     other-length (sheet-of (s .args .count) (s .args .numbers) (s .args .columns)) _ (λ e. c .if1 .taken (e ∙ l))
 
 loop-holds : tie.Need-loop-holds Inv-loop μ-loop
@@ -92,7 +89,7 @@ returns-3 : tie.Need-returns-3 Inv-loop μ-loop
 returns-3 c =
     let l = c .before in
     let s = l .before .before .before in
-    let m = sheet-long (s .args .count) (s .args .numbers) (s .args .columns) (s .pre) (s .good .1 .1 .0 .1 .0 .1) (s .good .1 .1 .1 .0 .1 .0 .1) in
+    let m = length-held (s .args .count) (s .args .numbers) (s .args .columns) (omega (arith, s .pre, s .good .1 .1 .0 .1 .0 .1)) (s .good .1 .1 .1 .0 .1 .0 .1) in
     equal (sheet-of (s .args .count) (s .args .numbers) (s .args .columns)) (now (s .args .bytes)) (m ∙ sym (l .loop .inv .0)) (λ i u. l .loop .inv .2 i (omega arith))
 
 pub is-sheet-spec : {M : Type 1} → statement M

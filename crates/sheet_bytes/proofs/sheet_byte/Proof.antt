@@ -3,12 +3,13 @@ use mathlib.Core.Path.{_≡_, sym, ap, _∙_}
 use Prim.Native.Nat.{ℕ, _+_, _-_, _≤_, _<_}
 use native.Mathlib.Omega.{arith}
 use mathlib.Core.List.{List, [], _∷_, _++_}
-use lib.ListN.{length, getD, take, length-map, List·getD-append}
+use lib.ListN.{length, getD, take, List·getD-append}
 use lib.Seq.{length-take-le, getD-take, getD-append-add, getD-at}
 use borrow.Author.Needs.{needs}
 use Rattle.clifford.specs.Columns.{signedByte}
 use Rattle.clifford.specs.Laws.Signed.{signed-at}
 use Rattle.sheet_bytes.specs.Bytes.{signByte, writtenColumns, sheetBytes}
+use Rattle.sheet_bytes.specs.Laws.Bytes.{written-long}
 use Rattle.sheet_bytes.proofs.sheet_byte.Statement.{statement}
 use Rattle.sheet_bytes.proofs.sheet_byte.Tie as tie
 
@@ -22,9 +23,6 @@ module _ (count n : ℕ) (numbers columns : List ℕ) (h : count ≤ 60) (l : le
   taken : length (take count numbers) ≡ count
   taken = length-take-le count numbers (omega arith)
 
-  six : length (writtenColumns columns) ≡ 6
-  six = length-map columns (signedByte sign) ∙ m
-
   front : n < count → getD numbers n 0 ≡ getD (sheetBytes (take count numbers) columns) n 0
   unfolding sheetBytes
   front u = sym (List·getD-append (take count numbers) rest 0 n (let e = taken in omega arith) ∙ getD-take count numbers n 0 u)
@@ -37,12 +35,12 @@ module _ (count n : ℕ) (numbers columns : List ℕ) (h : count ≤ 60) (l : le
       ap (λ x. getD (take count numbers ++ rest) x 0) (sym j) ∙ getD-append-add (take count numbers) rest (n - count) 0
 
   last : n ≡ count + 6 → sign ≡ getD (sheetBytes (take count numbers) columns) n 0
-  last u = sym (behind (omega arith) ∙ getD-at (writtenColumns columns) sign [] 0 (n - count) (let e = six in omega arith))
+  last u = sym (behind (omega arith) ∙ getD-at (writtenColumns columns) sign [] 0 (n - count) (let e = written-long columns m in omega arith))
 
   column : count ≤ n → n < count + 6 → signedByte sign (getD columns (n - count) 0) ≡ getD (sheetBytes (take count numbers) columns) n 0
   column u v =
       sym
-      (behind u ∙ List·getD-append (writtenColumns columns) (sign ∷ []) 0 (n - count) (let e = six in omega arith)
+      (behind u ∙ List·getD-append (writtenColumns columns) (sign ∷ []) 0 (n - count) (let e = written-long columns m in omega arith)
       ∙ signed-at sign columns (n - count) (omega arith))
 
 array-read-result : tie.Need-array-read-result

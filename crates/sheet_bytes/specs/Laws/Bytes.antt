@@ -2,10 +2,10 @@
 use mathlib.Core.Path.{_≡_, refl, sym, ap, _∙_}
 use mathlib.Core.Bool.{Bool, true, false, not, cond}
 use mathlib.Core.List.{List, [], _∷_, _++_, append-assoc}
-use Prim.Native.Nat.{ℕ, _+_, _-_}
+use Prim.Native.Nat.{ℕ, _+_, _-_, _≤_}
 use native.Mathlib.Omega.{arith}
 use lib.ListN.{length, getD, take, drop, length-append, length-map}
-use lib.Seq.{take-at, drop-at, getD-at}
+use lib.Seq.{take-at, drop-at, getD-at, length-take-le}
 use Rattle.matrix.specs.Matrix.{Same, scaled}
 use Rattle.matrix.specs.Operator.{SameOperator}
 use Rattle.matrix.specs.Laws.Operator.{same-operator-of}
@@ -40,16 +40,16 @@ module _ (gs bs : List ℕ) where
   pub before-and-sign : sheetBytes gs bs ≡ beforeSign (sheetBytes gs bs) ++ signByte bs ∷ []
   before-and-sign = sign-last ∙ ap (λ x. x ++ signByte bs ∷ []) (sym before-sign)
 
-module _ (gs bs : List ℕ) (l : length bs ≡ 6) where
-  written-long : length (writtenColumns bs) ≡ 6
-  written-long = length-map bs (signedByte (signByte bs)) ∙ l
+pub written-long : (bs : List ℕ) → length bs ≡ 6 → length (writtenColumns bs) ≡ 6
+written-long bs l = length-map bs (signedByte (signByte bs)) ∙ l
 
+module _ (gs bs : List ℕ) (l : length bs ≡ 6) where
   pub length-bytes : length (sheetBytes gs bs) ≡ length gs + shortest
   unfolding sheetBytes
   length-bytes =
       let a = length-append gs (writtenColumns bs ++ signByte bs ∷ []) in
       let b = length-append (writtenColumns bs) (signByte bs ∷ []) in
-      let c = written-long in
+      let c = written-long bs l in
       omega arith
 
   count-bytes : length (sheetBytes gs bs) - shortest ≡ length gs
@@ -64,7 +64,11 @@ module _ (gs bs : List ℕ) (l : length bs ≡ 6) where
   columns-back =
       ap (λ n. take 6 (drop n (sheetBytes gs bs))) count-bytes
       ∙ ap (take 6) (drop-at gs (writtenColumns bs ++ signByte bs ∷ []) (length gs) refl)
-      ∙ take-at (writtenColumns bs) (signByte bs ∷ []) 6 written-long
+      ∙ take-at (writtenColumns bs) (signByte bs ∷ []) 6 (written-long bs l)
+
+-- the same of the first `count` numbers of an array
+pub length-held : (count : ℕ) (numbers bs : List ℕ) → count ≤ length numbers → length bs ≡ 6 → length (sheetBytes (take count numbers) bs) ≡ count + shortest
+length-held count numbers bs h l = length-bytes (take count numbers) bs l ∙ ap (λ n. n + shortest) (length-take-le count numbers h)
 
 -- "written with column 1 positive"
 pub positive-first : (bs : List ℕ) → Permutation bs → isMinus (getD (writtenColumns bs) 0 0) ≡ false
