@@ -3,6 +3,7 @@
 use mathlib.Core.Bool.{Bool, true, cond, _&&_}
 use mathlib.Core.List.{List, [], _∷_}
 use Prim.Native.Nat.{ℕ, zero, suc, _+_, _*_}
+use lib.Dec.{ltb}
 use lib.IntN.{ℤ, pos, _+ℤ_}
 
 -- f 0 + .. + f (n − 1)
@@ -23,6 +24,10 @@ every n f = everyFrom f 0 n
 unfoldable pub firstFrom : (ℕ → Bool) → ℕ → ℕ → ℕ
 firstFrom f a zero = a
 firstFrom f a (suc k) = cond (f a) a (firstFrom f (suc a) k)
+
+-- whether f holds at some index below n
+abbrev pub some : ℕ → (ℕ → Bool) → Bool
+some n f = ltb (firstFrom f 0 n) n
 
 -- f a, f (a + 1), .., k of them
 unfoldable pub tabulate : {A : Type 0} → (ℕ → A) → ℕ → ℕ → List A

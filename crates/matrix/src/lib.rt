@@ -7,7 +7,7 @@ ghost use lib.IntN.{pos, natAbs};
 ghost use lib.ListN.{length, getD};
 ghost use Rattle.matrix.specs.Integer.{parity};
 ghost use Rattle.matrix.specs.Matrix.{entry, listed, rowProduct};
-ghost use Rattle.matrix.specs.Array.{Bounded, rowMask, rowWeight, allEven, halved, halfSums, halfPair, leastForm};
+ghost use Rattle.matrix.specs.Array.{Bounded, rowMask, allEven, halved, halfSums, halfPair, leastForm};
 
 // An operator at its least exponent.
 pub struct Least {
@@ -79,14 +79,6 @@ pub fn row_mask(m: &[i64; 36], r: usize) -> u8
         mask = parity_of(m[r * 6 + c]) + 2 * mask;
     }
     mask
-}
-
-// How many entries of row r are odd.
-pub fn row_weight(m: &[i64; 36], r: usize) -> u32
-    requires { ⌜ r < 6 ⌝ }
-    ensures { λ s. ⌜ s ≡ rowWeight (entry (now (m .entry))) r ⌝ }
-{
-    u8::count_ones(row_mask(m, r))
 }
 
 // (k, m) at its least exponent.

@@ -3,3 +3,4 @@ pub mod Step
 pub mod NormalForm
 pub mod Right
 pub mod Negative
+pub mod Loose

@@ -1,11 +1,13 @@
 -- The rule of cutting (document 01), for operators of every exponent. A matrix is the value of an array of 36 numbers.
+use mathlib.Core.Bool.{Bool, cond}
 use mathlib.Core.List.{List, [], _∷_}
-use Prim.Native.Nat.{ℕ, zero, suc}
+use Prim.Native.Nat.{ℕ, zero, suc, _+_}
 use lib.IntN.{ℤ}
 use Rattle.matrix.specs.Matrix.{Matrix, entry, listed}
 use Rattle.matrix.specs.Operator.{Operator, operator, timesOperator}
 use Rattle.matrix.specs.Array.{rowMask, halfSums, leastForm}
 use Rattle.residue.specs.Generator.{low, high, generator, firstFit}
+use Rattle.grouping.specs.Grouping.{isLoose}
 
 -- document 01's cut: "put its inverse on the left: rows i and j become half of (ri + rj) and half of (rj − ri)"
 abbrev pub cut : ℕ → Matrix → Matrix
@@ -27,6 +29,14 @@ unfoldable pub remainder : ℕ → List ℤ → List ℤ
 remainder zero m = m
 remainder (suc k) m = remainder k (step m)
 
+-- "whether its rows grouped as 2 and 4" (document 02, P3): of one cut, and how many cuts do
+abbrev pub looseCut : List ℤ → Bool
+looseCut m = isLoose (rowMask (entry m))
+
+unfoldable pub looseCuts : ℕ → List ℤ → ℕ
+looseCuts zero m = 0
+looseCuts (suc k) m = cond (looseCut m) 1 0 + looseCuts k (step m)
+
 -- "The count t is the number of generators taken": of any pair, at its least exponent
 abbrev pub count : ℕ → List ℤ → ℕ
 count k m = leastForm k m .exponent
@@ -36,6 +46,10 @@ taken k m = generators (leastForm k m .exponent) (leastForm k m .matrix)
 
 abbrev pub remaining : ℕ → List ℤ → List ℤ
 remaining k m = remainder (leastForm k m .exponent) (leastForm k m .matrix)
+
+-- document 02's L: "the number of such cuts in the defined cutting"
+abbrev pub loose : ℕ → List ℤ → ℕ
+loose k m = looseCuts (leastForm k m .exponent) (leastForm k m .matrix)
 
 -- "its generators in order, times its Clifford": the operator of generator numbers and a matrix of exponent 0
 unfoldable pub normalForm : List ℕ → Matrix → Operator

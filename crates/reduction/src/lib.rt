@@ -6,14 +6,22 @@ ghost use Rattle.matrix.specs.Matrix.{entry, listed};
 ghost use Rattle.matrix.specs.Operator.{operator, Orthogonal, Reduced};
 ghost use Rattle.matrix.specs.Array.{Bounded};
 ghost use Rattle.reduction.specs.Reduction.{cut};
-ghost use Rattle.reduction.specs.Result.{Whole, WholeOf};
+ghost use Rattle.reduction.specs.Result.{Cuttable, StepOf, Whole, WholeOf};
 
 // The most generators that a reduction takes here.
 pub const MAX_GENERATORS: usize = 60;
 
-// What a reduction gives: the generators' numbers, of which the first `count` count, and the matrix that remains.
+// What one cut gives: the generator's number, whether the rows grouped as 2 and 4, and the matrix that is left.
+pub struct Step {
+    pub number: u8,
+    pub loose: bool,
+    pub matrix: [i64; 36],
+}
+
+// What a reduction gives: the generators' numbers, of which the first `count` count, how many of these cuts were loose, and the matrix that remains.
 pub struct Normal {
     pub count: u8,
+    pub loose: u8,
     pub numbers: [u8; 60],
     pub matrix: [i64; 36],
 }
@@ -31,23 +39,43 @@ pub fn cut_by(m: [i64; 36], g: usize) -> [i64; 36]
     out
 }
 
+// One cut. That some row has no odd entry decides whether it is loose.
+// Wrong, and refused: a flag that is always false; a flag that the first row alone decides.
+pub fn cut_once(m: [i64; 36]) -> Step
+    requires { ⌜ Cuttable m ⌝ }
+    ensures { λ r. ⌜ StepOf m r ⌝ }
+{
+    let masks = residue::row_masks(&m);
+    let g = residue::first_fit(masks);
+    let loose = residue::has_even_row(masks);
+    let matrix = cut_by(m, g);
+    Step {
+        number: g as u8,
+        loose,
+        matrix,
+    }
+}
+
 // The cutting of a reduced orthogonal operator, one generator a turn.
 fn reduce(k: u8, m: [i64; 36]) -> Normal
     requires { ⌜ (k ≤ 60) × Orthogonal (operator k (entry m)) × Reduced (operator k (entry m)) ⌝ }
     ensures { λ r. ⌜ Whole k m r ⌝ }
 {
     let mut numbers = [0u8; 60];
+    let mut loose = 0u8;
     let mut matrix = m;
     let mut n = 0u8;
     while n < k {
-        let g = residue::first_fit(&matrix);
-        let next = cut_by(matrix, g);
-        numbers[n as usize] = g as u8;
+        let step = cut_once(matrix);
+        let next = step.matrix;
+        numbers[n as usize] = step.number;
+        loose += step.loose as u8;
         matrix = next;
         n += 1;
     }
     Normal {
         count: k,
+        loose,
         numbers,
         matrix,
     }

@@ -6,7 +6,7 @@ ghost use Rattle.matrix.specs.Range.{tabulate};
 ghost use Rattle.matrix.specs.Matrix.{entry};
 ghost use Rattle.matrix.specs.Array.{rowMask};
 ghost use Rattle.residue.specs.Generator.{pairRows, firstFit};
-ghost use Rattle.residue.specs.Masks.{AreRows, maskAt, pairsFit};
+ghost use Rattle.residue.specs.Masks.{AreRows, maskAt, pairsFit, hasEvenRow};
 
 // The three pairs of each generator, in the order of their numbers; rows are counted from 0.
 const PAIRS: [[u8; 6]; 15] = [
@@ -65,8 +65,8 @@ fn pairs_fit(masks: &[u8; 6], pairs: [u8; 6]) -> bool
     true
 }
 
-// The lowest-numbered generator that fits, or 16.
-fn first_that_fits(masks: [u8; 6]) -> usize
+// The lowest-numbered generator whose every pair lies inside a group of rows, or 16.
+pub fn first_fit(masks: [u8; 6]) -> usize
     ensures { λ r. ⌜ r ≡ firstFit (maskAt masks) ⌝ }
 {
     let table = PAIRS;
@@ -81,9 +81,16 @@ fn first_that_fits(masks: [u8; 6]) -> usize
     g
 }
 
-// The lowest-numbered generator whose every pair lies inside a group of rows, or 16.
-pub fn first_fit(m: &[i64; 36]) -> usize
-    ensures { λ r. ⌜ r ≡ firstFit (rowMask (entry (now (m .entry)))) ⌝ }
+// Whether some row has no odd entry.
+pub fn has_even_row(masks: [u8; 6]) -> bool
+    ensures { λ r. ⌜ r ≡ hasEvenRow (maskAt masks) ⌝ }
 {
-    first_that_fits(row_masks(m))
+    let mut r = 0usize;
+    while r < 6 {
+        if u8::count_ones(masks[r]) == 0 {
+            return true;
+        }
+        r += 1;
+    }
+    false
 }

@@ -7,7 +7,7 @@ use mathlib.Core.List.{List, [], _∷_, _++_}
 use Prim.Native.Nat.{ℕ, zero, suc, _+_, _%_, _<_}
 use lib.ListN.{getD}
 use lib.Dec.{T, eqb, ltb, lit<}
-use Rattle.matrix.specs.Range.{everyFrom, every, firstFrom}
+use Rattle.matrix.specs.Range.{everyFrom, every, firstFrom, some}
 use Rattle.matrix.specs.Laws.Range.{every-sound, every-complete}
 use Rattle.residue.specs.Generator.{table, place, low, high}
 use Rattle.matrix.specs.Laws.Test.{both, left, right, or-elim, imp, imp-sound, T-true, true-T}
@@ -30,7 +30,7 @@ abbrev pub sameRow : Row → Row → Bool
 sameRow (row a b c d e f) (row a′ b′ c′ d′ e′ f′) =
     Bool·beq a a′ && (Bool·beq b b′ && (Bool·beq c c′ && (Bool·beq d d′ && (Bool·beq e e′ && Bool·beq f f′))))
 
-beq-sound : (a b : Bool) → T (Bool·beq a b) → a ≡ b
+pub beq-sound : (a b : Bool) → T (Bool·beq a b) → a ≡ b
 beq-sound true true t = refl
 beq-sound true false t = absurd t
 beq-sound false true t = absurd t
@@ -109,12 +109,21 @@ abbrev pub rowsInGroupsOf : ℕ → List Row → List Row → ℕ
 rowsInGroupsOf n [] m = 0
 rowsInGroupsOf n (r ∷ rs) m = bit (eqb (size r m) n) + rowsInGroupsOf n rs m
 
--- 2, 2, 2: all rows are in groups of two; 2 and 4: two rows are in one, four in a group of four
-unfoldable pub grouped : List Row → Bool
-grouped m = eqb (rowsInGroupsOf 2 m m) 6 || (eqb (rowsInGroupsOf 2 m m) 2 && eqb (rowsInGroupsOf 4 m m) 4)
+-- 2 and 4: two rows are in a group of two, four in a group of four
+abbrev pub twoAndFour : List Row → Bool
+twoAndFour m = eqb (rowsInGroupsOf 2 m m) 2 && eqb (rowsInGroupsOf 4 m m) 4
 
+-- 2, 2, 2: all rows are in groups of two; or 2 and 4
+unfoldable pub grouped : List Row → Bool
+grouped m = eqb (rowsInGroupsOf 2 m m) 6 || twoAndFour m
+
+-- some row has no bit
+abbrev pub hasZero : List Row → Bool
+hasZero m = some 6 (λ r. eqb (weight (nth m r)) 0)
+
+-- a generator fits, the rows group, and as 2 and 4 exactly if some row has no bit
 unfoldable pub paired : List Row → Bool
-paired m = ltb (firstFrom (agrees m) 1 15) 16 && grouped m
+paired m = ltb (firstFrom (agrees m) 1 15) 16 && (grouped m && Bool·beq (twoAndFour m) (hasZero m))
 
 -- ---- the enumeration
 

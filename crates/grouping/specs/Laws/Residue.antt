@@ -7,6 +7,7 @@ use mathlib.Core.List.{List, [], _∷_}
 use Prim.Native.Nat.{ℕ, zero, suc, _+_, _*_, _%_, _^_, _<_, _≤_}
 use native.Mathlib.Nat.{zero-add}
 use native.Mathlib.Omega.{arith}
+use lib.Count.{ones}
 use lib.Dec.{T, eqb, ltb, eqb→eq, ltb→lt}
 use lib.IntN.{ℤ, pos, natAbs, _+ℤ_, _*ℤ_}
 use borrow.Author.Tests.{eq-eqb, ne-eqb, eqb-true}
@@ -17,12 +18,13 @@ use Rattle.matrix.specs.Operator.{operator, Orthogonal, AllEven, Reduced}
 use Rattle.matrix.specs.Array.{rowMask, rowWeight}
 use Rattle.matrix.specs.Laws.Parity.{parity-add, parity-mul, parity-lt, parity-even}
 use Rattle.matrix.specs.Laws.Range.{First, first-found, first-in, every-sound, every-complete}
-use Rattle.matrix.specs.Laws.Array.{equal-masks, norm-total, row-norm, row-other, columns-of}
+use Rattle.matrix.specs.Laws.Array.{mask-ones, equal-masks, norm-total, row-norm, row-other, columns-of}
 use Rattle.residue.specs.Generator.{low, high, fits, firstFit}
-use Rattle.grouping.specs.Grouping.{groupSize, inGroupsOf}
+use Rattle.residue.specs.Masks.{hasEvenRow}
+use Rattle.grouping.specs.Grouping.{groupSize, inGroupsOf, isLoose}
 use Rattle.matrix.specs.Laws.Test.{left, right, or-elim, T-true, true-T}
 use Rattle.residue.specs.Laws.Generator.{low-six, high-six}
-use Rattle.grouping.specs.Laws.Grouping.{Row, row, bit, weight, meet, sameRow, same-row-sound, same-row-refl, column, nth, agrees, size, rowsInGroupsOf, grouped, paired, sixOf, columnOf, noneOrFour, notZero, two, meetInTwoOrNone, grouping-four, grouping-two}
+use Rattle.grouping.specs.Laws.Grouping.{Row, row, bit, weight, meet, sameRow, beq-sound, same-row-sound, same-row-refl, column, nth, agrees, size, rowsInGroupsOf, twoAndFour, grouped, hasZero, paired, sixOf, columnOf, noneOrFour, notZero, two, meetInTwoOrNone, grouping-four, grouping-two}
 
 -- ---- vectors of six numbers
 
@@ -235,25 +237,41 @@ in-groups-is : (M : Matrix) (n : ℕ) → rowsInGroupsOf n (sixOf (oddRow M)) (s
 unfolding inGroupsOf total
 in-groups-is M n = rw (size-is M 0, size-is M 1, size-is M 2, size-is M 3, size-is M 4, size-is M 5)
 
+-- a row of bits weighs what the row has odd entries, and what its mask has bits
+weight-is : (M : Matrix) (i : ℕ) → weight (oddRow M i) ≡ rowWeight M i
+unfolding rowWeight total
+weight-is M i = let e = weight-odd (M i) in omega arith
+
+weight-ones : (M : Matrix) (i : ℕ) → weight (oddRow M i) ≡ ones (rowMask M i)
+weight-ones M i = weight-is M i ∙ sym (mask-ones M i)
+
+zero-row-is : (M : Matrix) → hasZero (sixOf (oddRow M)) ≡ hasEvenRow (rowMask M)
+unfolding hasEvenRow firstFrom
+zero-row-is M = rw (weight-ones M 0, weight-ones M 1, weight-ones M 2, weight-ones M 3, weight-ones M 4, weight-ones M 5)
+
 -- ---- the theorem
 
 -- how rows group by the numbers f, and that a generator fits
 pub record Grouped (f : ℕ → ℕ) : Type 0 where
   -- "Rows with equal bits group as 2, 2, 2 or as 2 and 4"
   pub groups : (inGroupsOf 2 f ≡ 6) ⊎ ((inGroupsOf 2 f ≡ 2) × (inGroupsOf 4 f ≡ 4))
+  -- as 2 and 4 exactly if some row has no odd entry
+  pub loose : isLoose f ≡ hasEvenRow f
   -- "the lowest-numbered generator whose every pair lies inside a group"
   pub fit : First (fits f) 1 16 (firstFit f)
 
 grouped-of : (M : Matrix) → T (paired (sixOf (oddRow M))) → Grouped (rowMask M)
-unfolding paired grouped firstFit
+unfolding paired grouped firstFit isLoose
 grouped-of M t =
     let m = sixOf (oddRow M) in
     let found = first-in (agrees m) 1 15 (ltb→lt _ 16 (left (ltb (firstFrom (agrees m) 1 15) 16) _ t)) in
     let upper : firstFrom (agrees m) 1 15 < 16 = found .below in
+    let groups = right (ltb (firstFrom (agrees m) 1 15) 16) _ t in
     record {
-      groups = or-elim (eqb (rowsInGroupsOf 2 m m) 6) _ _ (right (ltb (firstFrom (agrees m) 1 15) 16) _ t)
+      groups = or-elim (eqb (rowsInGroupsOf 2 m m) 6) _ _ (left (grouped m) _ groups)
           (λ a. inl (sym (in-groups-is M 2) ∙ eqb→eq _ _ a))
           (λ a. inr (sym (in-groups-is M 2) ∙ eqb→eq _ _ (left (eqb (rowsInGroupsOf 2 m m) 2) _ a), sym (in-groups-is M 4) ∙ eqb→eq _ _ (right (eqb (rowsInGroupsOf 2 m m) 2) _ a)));
+      loose = rw (sym (in-groups-is M 2), sym (in-groups-is M 4)) (beq-sound (twoAndFour m) (hasZero m) (right (grouped m) _ groups) ∙ zero-row-is M);
       fit = first-found (fits (rowMask M)) 1 15 (firstFrom (agrees m) 1 15) (fits-agrees M _ (found .from) (omega arith) (found .holds)) (found .from) (omega arith);
     }
 
@@ -262,10 +280,6 @@ column-norm k M o c h = row-norm k (transpose M) (columns-of k M o) c h
 
 row-meets : (k : ℕ) (M : Matrix) → Orthogonal (operator k M) → (i j : ℕ) → i < j → j < 6 → weight (meet (oddRow M i) (oddRow M j)) % 2 ≡ 0
 row-meets k M o i j l h = meets-evenly (M i) (M j) (row-other k M o i j (omega arith) h (omega arith))
-
-weight-is : (M : Matrix) (i : ℕ) → weight (oddRow M i) ≡ rowWeight M i
-unfolding rowWeight total
-weight-is M i = let e = weight-odd (M i) in omega arith
 
 -- "For k of at least 2 the odd entries of a row, as six bits, number none or four; for k = 1, two", and of a column
 pub row-weight-four : (k : ℕ) (M : Matrix) → Orthogonal (operator (suc (suc k)) M) → (i : ℕ) → i < 6 → (rowWeight M i ≡ 0) ⊎ (rowWeight M i ≡ 4)

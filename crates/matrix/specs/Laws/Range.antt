@@ -11,7 +11,8 @@ use lib.Dec.{T}
 use lib.ListN.{length, getD, drop, set, length-set}
 use lib.Pow.{shr-shr, pow-mono}
 use lib.Seq.{drop-cons, ext-getD, getD-set-same, getD-set-other}
-use Rattle.matrix.specs.Range.{firstFrom, everyFrom, every, tabulate, bits, total}
+use borrow.Author.Tests.{ltb-true, lt-ltb}
+use Rattle.matrix.specs.Range.{firstFrom, everyFrom, every, some, tabulate, bits, total}
 
 -- ---- a test at every index
 
@@ -105,6 +106,14 @@ unfolding firstFrom
 first-in f a zero h = absurd (omega arith)
 first-in f a (suc k) h = first-step f a k (λ p. first-in f (suc a) k (let u : firstFrom f (suc a) k < a + suc k = rw p at h in omega arith))
 
+pub some-sound : (n : ℕ) (f : ℕ → Bool) → some n f ≡ true → (i : ℕ) × (i < n) × (f i ≡ true)
+some-sound n f e =
+    let h : firstFrom f 0 n < n = ltb-true _ _ e in
+    (firstFrom f 0 n, h, first-in f 0 n (omega arith) .holds)
+
+pub some-complete : (n : ℕ) (f : ℕ → Bool) (i : ℕ) → i < n → f i ≡ true → some n f ≡ true
+some-complete n f i h e = let s = first-found f 0 n i e (omega arith) (omega arith) .below in lt-ltb (firstFrom f 0 n) n (omega arith)
+
 -- ---- a list that a function of the index makes
 
 module _ {A : Type 0} where
@@ -152,7 +161,12 @@ module _ {A : Type 0} (d : A) (f : ℕ → A) (b₀ : List A) where
   pub filled-all : (n : ℕ) (b : List A) → Filled d f b₀ n b → n ≡ length b₀ → b ≡ tabulate f 0 n
   filled-all n b w h = tabulate-is f n d b (w .long ∙ sym h) (w .front)
 
--- ---- a number by its bits
+-- ---- sums, and a number by its bits
+
+pub total-cong : {f g : ℕ → ℕ} (a k : ℕ) → ((i : ℕ) → a ≤ i → i < a + k → f i ≡ g i) → total f a k ≡ total g a k
+unfolding total
+total-cong a zero h = refl
+total-cong a (suc k) h = ap₂ _+_ (h a (omega arith) (omega arith)) (total-cong (suc a) k (λ i l u. h i (omega arith) (omega arith)))
 
 module _ (f : ℕ → ℕ) (one-bit : (c : ℕ) → f c < 2) where
   pub bits-lt : (c k : ℕ) → bits f c k < 2 ^ k

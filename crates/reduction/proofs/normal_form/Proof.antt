@@ -27,7 +27,7 @@ reduce-requires c κs =
 
 -- the reduction of the least form is that of the pair
 whole : (k : ℕ) (m : List ℤ) (l : Least) (r : Normal) → l ≡ leastForm k m → Whole (l .exponent) (l .matrix) r → WholeOf k m r
-whole k m l r e w = subst (λ (x : Least). Whole (x .exponent) (x .matrix) r → WholeOf k m r) (sym e) (λ v. record { count = v .count; numbers = v .numbers; matrix = v .matrix }) w
+whole k m l r e w = subst (λ (x : Least). Whole (x .exponent) (x .matrix) r → WholeOf k m r) (sym e) (λ v. record { count = v .count; loose = v .loose; numbers = v .numbers; matrix = v .matrix }) w
 
 returns : tie.Need-returns
 returns c = whole _ _ _ _ (c .before .before .least-form .ensures) (c .reduce .ensures)

@@ -20,13 +20,13 @@ pub negative-same : (k : ℕ) (m : List ℤ) → SameOperator (negative (operato
 negative-same k m = listed-same (negative (operator k (entry m)))
 
 -- −1 as a signed permutation on the right
-abbrev minusOne : Matrix
+abbrev pub minusOne : Matrix
 minusOne = scaled (negsuc 0) δ
 
-minus-one-orthogonal : Orthogonal (operator 0 minusOne)
+pub minus-one-orthogonal : Orthogonal (operator 0 minusOne)
 minus-one-orthogonal = negative-orthogonal {A = operator 0 δ} (record { rows = orthogonal-δ 6 })
 
-negative-right : (m : List ℤ) → negativeOf m ≡ timesRight m minusOne
+pub negative-right : (m : List ℤ) → negativeOf m ≡ timesRight m minusOne
 negative-right m =
     listed-cong (scaled (negsuc 0) (entry m)) _
     (λ i j hi hj. sym (ap (λ X. X i j) (product-scaled-r 6 (negsuc 0) (entry m) δ) ∙ ap (λ x. negsuc 0 *ℤ x) (product-id-r 6 (entry m) i j hi hj)))

@@ -37,7 +37,7 @@ module _ (D : Matrix) (d : Orthogonal (operator 0 D)) where
   right-chosen m = first-fit-cong (rowMask (entry (timesRight m D))) (rowMask (entry m)) (masks-right D d (entry m))
 
   -- one cut: what is left, twice over, is the generator's inverse times the matrix, whatever stands on the right
-  right-step : (k : ℕ) (m : List ℤ) → Orthogonal (operator (suc k) (entry m)) → Reduced (operator (suc k) (entry m)) → step (timesRight m D) ≡ timesRight (step m) D
+  pub right-step : (k : ℕ) (m : List ℤ) → Orthogonal (operator (suc k) (entry m)) → Reduced (operator (suc k) (entry m)) → step (timesRight m D) ≡ timesRight (step m) D
   right-step k m o r = ap (λ x. listed (cut x (entry (timesRight m D)))) (right-chosen m) ∙ listed-cong (cut g (entry (timesRight m D))) (product 6 (entry (step m)) D) here
     where
       g : ℕ
@@ -84,7 +84,7 @@ module _ (D : Matrix) (d : Orthogonal (operator 0 D)) where
 -- ---- of any orthogonal pair
 
 module _ (D : Matrix) (d : Orthogonal (operator 0 D)) (k : ℕ) (m : List ℤ) (o : Orthogonal (operator k (entry m))) where
-  least-times : leastForm k (timesRight m D) ≡ record { exponent = leastForm k m .exponent; matrix = timesRight (leastForm k m .matrix) D }
+  pub least-times : leastForm k (timesRight m D) ≡ record { exponent = leastForm k m .exponent; matrix = timesRight (leastForm k m .matrix) D }
   least-times =
       let l = leastForm k m in
       let f = least-form k m in
