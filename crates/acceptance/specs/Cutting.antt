@@ -14,6 +14,9 @@ use Rattle.acceptance.specs.Acceptance.{fileRefusal}
 abbrev pub fileCount : List ℕ → ℕ
 fileCount b = reduction.count (fileExponent b) (fileMatrix b)
 
+abbrev pub fileLoose : List ℕ → ℕ
+fileLoose b = reduction.loose (fileExponent b) (fileMatrix b)
+
 abbrev pub fileNumbers : List ℕ → List ℕ
 fileNumbers b = reduction.taken (fileExponent b) (fileMatrix b)
 
@@ -24,6 +27,7 @@ fileColumns b = columnBytes (entry (reduction.remaining (fileExponent b) (fileMa
 pub record CutAs (n k : ℕ) (m : List ℤ) (r : Cut) : Type 0 where
   pub refusal : r .refusal ≡ n
   pub count : n ≡ 0 → r .count ≡ reduction.count k m
+  pub loose : n ≡ 0 → r .loose ≡ reduction.loose k m
   pub numbers : n ≡ 0 → r .numbers ≡ numbersOf (reduction.count k m) (reduction.taken k m)
   pub columns : n ≡ 0 → r .columns ≡ columnBytes (entry (reduction.remaining k m))
 

@@ -12,6 +12,7 @@ ghost use Rattle.acceptance.specs.Cutting.{CutAs, CutOf};
 pub struct Cut {
     pub refusal: u8,
     pub count: u8,
+    pub loose: u8,
     pub numbers: [u8; 60],
     pub columns: [u8; 6],
 }
@@ -23,6 +24,7 @@ fn refused(refusal: u8) -> Cut
     Cut {
         refusal,
         count: 0,
+        loose: 0,
         numbers: [0; 60],
         columns: [0; 6],
     }
@@ -41,6 +43,7 @@ fn cut_operator(k: u8, m: [i64; 36]) -> Cut
     }
     let normal = reduction::normal_form(k, m);
     let count = normal.count;
+    let loose = normal.loose;
     let numbers = normal.numbers;
     let remaining = normal.matrix;
     let columns = clifford::columns_of(remaining);
@@ -50,6 +53,7 @@ fn cut_operator(k: u8, m: [i64; 36]) -> Cut
     Cut {
         refusal: 0,
         count,
+        loose,
         numbers,
         columns,
     }

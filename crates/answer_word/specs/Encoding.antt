@@ -5,6 +5,7 @@ use Prim.Native.Nat.{ℕ, _+_, _*_, _^_, _/_, _%_, _<_, _≤_}
 use lib.Dec.{eqb}
 use Rattle.file.specs.declared.Answer.{Answer}
 use Rattle.file.specs.declared.Answer.the-variants.{Count, Refused}
+use Rattle.operator.specs.declared.Cuts as cuts
 use Rattle.operator.specs.declared.Listed as listed
 
 -- ---- the layout
@@ -47,14 +48,19 @@ abbrev pub answerParts : Answer → Parts
 answerParts (Count n) = given n 0 0 0
 answerParts (Refused n) = refused n
 
--- the count is the value, the number of letters written the length
+-- the count is the value, beside it L
+abbrev pub cutsParts : cuts.Cuts → Parts
+cutsParts (cuts.the-variants.Taken t loose) = given t 0 loose 0
+cutsParts (cuts.the-variants.Refused n) = refused n
+
+-- the count is the value, the number of letters written the length, beside them L
 abbrev pub listedParts : listed.Listed → Parts
-listedParts (listed.the-variants.Letters t letters) = given t letters 0 0
+listedParts (listed.the-variants.Letters t letters loose) = given t letters loose 0
 listedParts (listed.the-variants.Refused n) = refused n
 
 -- the number of letters written
 abbrev pub lettersOf : listed.Listed → ℕ
-lettersOf (listed.the-variants.Letters t letters) = letters
+lettersOf (listed.the-variants.Letters t letters loose) = letters
 lettersOf (listed.the-variants.Refused n) = 0
 
 -- r is the word of the parts p, and they have room, so that a caller finds them (`parts-back`)

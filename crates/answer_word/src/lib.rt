@@ -1,11 +1,12 @@
 // An answer as one word of 64 bits. The contracts cite specs/Encoding.antt.
 
 use file::Answer;
+use operator::Cuts;
 use operator::Listed;
 ghost use mathlib.Core.Logic.{_≢_};
 ghost use mathlib.Core.Path.{_≡_};
 ghost use Prim.Native.Nat.{_^_, _<_};
-ghost use Rattle.answer_word.specs.Encoding.{packed, answerParts, listedParts, lettersOf, WordOf};
+ghost use Rattle.answer_word.specs.Encoding.{packed, answerParts, cutsParts, listedParts, lettersOf, WordOf};
 
 // The lowest bit of each part of a word; that of the refusal is 1.
 const VALUE: u64 = 1 << 8;
@@ -41,14 +42,30 @@ pub fn encode_answer(answer: Answer) -> u64
     }
 }
 
+// The word of the answer of the call for a sheet.
+// Wrong, and refused: L as a length.
+pub fn encode_cuts(answer: Cuts) -> u64
+    requires { ⌜ answer ≢ Cuts.Refused 0 ⌝ }
+    ensures { λ r. ⌜ WordOf (cutsParts answer) r ⌝ }
+{
+    match answer {
+        Cuts::Taken { count, loose } => pack(0, count as u32, 0, loose, 0),
+        Cuts::Refused(refusal) => pack(refusal, 0, 0, 0, 0),
+    }
+}
+
 // The word of the answer of the call for a gate list.
-// Wrong, and refused: the count as the number of letters; a refusal beside a count.
+// Wrong, and refused: the count as the number of letters; a refusal beside a count; the count for L.
 pub fn encode_listed(answer: Listed) -> u64
     requires { ⌜ (answer ≢ Listed.Refused 0) × (lettersOf answer < 2 ^ 16) ⌝ }
     ensures { λ r. ⌜ WordOf (listedParts answer) r ⌝ }
 {
     match answer {
-        Listed::Letters { count, letters } => pack(0, count as u32, letters as u16, 0, 0),
+        Listed::Letters {
+            count,
+            letters,
+            loose,
+        } => pack(0, count as u32, letters as u16, loose, 0),
         Listed::Refused(refusal) => pack(refusal, 0, 0, 0, 0),
     }
 }

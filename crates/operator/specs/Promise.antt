@@ -7,26 +7,26 @@ use Prim.Native.Nat.{ℕ, _+_, _*_, _≤_, _<_}
 use lib.Dec.{eqb, ltb}
 use lib.ListN.{length}
 use Rattle.matrix.specs.Operator.{SameOperator, LeastExponent}
-use Rattle.file.specs.declared.Answer.{Answer}
-use Rattle.file.specs.declared.Answer.the-variants.{Count, Refused}
 use Rattle.file.specs.File.{largestExponent, fileLength, fileExponent, fileMatrix, written, fileOperator}
 use Rattle.letter.specs.declared.Gate.{Gate}
 use Rattle.letter.specs.Gate.{letter}
 use Rattle.gate.specs.Product.{MultipliesTo, csGates}
+use Rattle.operator.specs.declared.Cuts.{Cuts}
+use Rattle.operator.specs.declared.Cuts.the-variants.{Taken, Refused}
 use Rattle.operator.specs.declared.Listed as listed
 use Rattle.sheet_bytes.specs.Bytes.{sheet, sheetOperator}
 use Rattle.acceptance.specs.Acceptance.{fileRefusal}
-use Rattle.acceptance.specs.Cutting.{fileCount}
+use Rattle.acceptance.specs.Cutting.{fileCount, fileLoose}
 
 -- ---- refused for its entries
 
 -- the number of an answer's refusal, 0 where there is none
-abbrev pub refusalOf : Answer → ℕ
-refusalOf (Count t) = 0
+abbrev pub refusalOf : Cuts → ℕ
+refusalOf (Taken t l) = 0
 refusalOf (Refused n) = n
 
 abbrev pub listedRefusal : listed.Listed → ℕ
-listedRefusal (listed.the-variants.Letters t n) = 0
+listedRefusal (listed.the-variants.Letters t n l) = 0
 listedRefusal (listed.the-variants.Refused n) = n
 
 -- "a file is refused for its entries if the answer is 3, 4 or 5"
@@ -49,15 +49,16 @@ pub record ExactlyRefused (b : List ℕ) (n : ℕ) : Type 0 where
 abbrev pub fileSheet : List ℕ → List ℕ
 fileSheet b = sheet (fileExponent b) (fileMatrix b)
 
--- the answer, where the lent buffer has n bytes: "operators 1, 2, 3, 4, 5, 6", and 6 is "shorter than … the sheet"
-unfoldable pub sheetAnswer : List ℕ → ℕ → Answer
-sheetAnswer b n = cond (eqb (fileRefusal b) 0) (cond (ltb n (length (fileSheet b))) (Refused 6) (Count (fileCount b))) (Refused (fileRefusal b))
+-- the answer, where the lent buffer has n bytes: "operators 1, 2, 3, 4, 5, 6", and 6 is "shorter than … the sheet"; "beside the count, L"
+-- (document 02, P3)
+unfoldable pub sheetAnswer : List ℕ → ℕ → Cuts
+sheetAnswer b n = cond (eqb (fileRefusal b) 0) (cond (ltb n (length (fileSheet b))) (Refused 6) (Taken (fileCount b) (fileLoose b))) (Refused (fileRefusal b))
 
 -- the buffer afterwards
 unfoldable pub sheetBuffer : List ℕ → List ℕ → List ℕ
 sheetBuffer b old = cond (eqb (fileRefusal b) 0) (cond (ltb (length old) (length (fileSheet b))) old (written old (fileSheet b))) old
 
-pub record SheetPromise (b old new : List ℕ) (a : Answer) : Type 0 where
+pub record SheetPromise (b old new : List ℕ) (a : Cuts) : Type 0 where
   pub answer : a ≡ sheetAnswer b (length old)
   pub buffer : new ≡ sheetBuffer b old
   -- demand 2: the sheet's generators in order, times its Clifford, times the sign are the operator handed in
@@ -72,8 +73,8 @@ pub record SheetPromise (b old new : List ℕ) (a : Answer) : Type 0 where
 pub record Handed (b old new : List ℕ) (a : listed.Listed) (w : List Gate) : Type 0 where
   -- the letters at the front of the buffer, and the bytes past them as they were
   pub buffer : new ≡ written old (map letter w)
-  -- "the count comes with the number of letters written"
-  pub answer : a ≡ listed.the-variants.Letters (fileCount b) (length w)
+  -- "the count comes with the number of letters written"; "beside the count, L" (document 02, P3)
+  pub answer : a ≡ listed.the-variants.Letters (fileCount b) (length w) (fileLoose b)
   -- demand 2
   pub multiplies : MultipliesTo w (fileOperator b)
   -- demand 3: the letters C, the count and the least exponent are one number, and no list has fewer letters C

@@ -1,6 +1,5 @@
 // Operator files to sheets and gate lists: refusals 1 to 6. The contracts cite specs/Promise.antt.
 
-use file::Answer;
 ghost use mathlib.Core.Path.{_≡_};
 ghost use Prim.Native.Nat.{_+_, _≤_};
 ghost use lib.ListN.{length, take};
@@ -22,35 +21,42 @@ fn write_sheet(count: u8, numbers: [u8; 60], columns: [u8; 6], out: &mut [u8])
     }
 }
 
+// What the call for a sheet answers: the count with L, or the refusal's number.
+pub enum Cuts {
+    Taken { count: u8, loose: u8 },
+    Refused(u8),
+}
+
 // An operator file into a sheet at the front of `out`.
 // Wrong, and refused: the first generator's number in every place; the exponent that the file carries as the count; a last byte of 0 for
-// every operator.
-pub fn operator_to_sheet(bytes: &[u8], out: &mut [u8]) -> Answer
+// every operator; the count for L.
+pub fn operator_to_sheet(bytes: &[u8], out: &mut [u8]) -> Cuts
     ensures { λ r. ⌜ SheetPromise (now (bytes .entry)) (now (out .entry)) (now (out .exit)) r ⌝ }
 {
     let cut = acceptance::cut_file(bytes);
     let refusal = cut.refusal;
     if refusal != 0 {
-        return Answer::Refused(refusal);
+        return Cuts::Refused(refusal);
     }
     let count = cut.count;
+    let loose = cut.loose;
     let numbers = cut.numbers;
     let columns = cut.columns;
     if out.len() < count as usize + sheet_bytes::SHORTEST {
-        return Answer::Refused(6);
+        return Cuts::Refused(6);
     }
     write_sheet(count, numbers, columns, out);
-    Answer::Count(count)
+    Cuts::Taken { count, loose }
 }
 
-// What the call for a gate list answers: the count with the number of letters written, or the refusal's number.
+// What the call for a gate list answers: the count with the number of letters written and L, or the refusal's number.
 pub enum Listed {
-    Letters { count: u8, letters: usize },
+    Letters { count: u8, letters: usize, loose: u8 },
     Refused(u8),
 }
 
 // An operator file into a gate list at the front of `out`.
-// Wrong, and refused: a count that is not the number of letters C; 4 for a file that earns 3 first.
+// Wrong, and refused: a count that is not the number of letters C; 4 for a file that earns 3 first; no L.
 pub fn operator_to_gates(bytes: &[u8], out: &mut [u8]) -> Listed
     ensures { λ r. ⌜ GatesPromise (now (bytes .entry)) (now (out .entry)) (now (out .exit)) r ⌝ }
 {
@@ -60,11 +66,12 @@ pub fn operator_to_gates(bytes: &[u8], out: &mut [u8]) -> Listed
         return Listed::Refused(refusal);
     }
     let count = cut.count;
+    let loose = cut.loose;
     let numbers = cut.numbers;
     let columns = cut.columns;
     if out.len() < 256 * (count as usize + 1) {
         return Listed::Refused(6);
     }
     let letters = gate_list::write_list(count, numbers, columns, out);
-    Listed::Letters { count, letters }
+    Listed::Letters { count, letters, loose }
 }

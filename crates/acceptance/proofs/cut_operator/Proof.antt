@@ -33,8 +33,8 @@ module _ (k : ℕ) (m : List ℤ) (w : isWithin k (entry m) ≡ true) (o : isOrt
   improper : isEven cs ≡ false → (r : Cut) → r .refusal ≡ 5 → CutAs (entriesRefusal (operator k (entry m))) k m r
   improper e r z = rw (w, o, sign e) (refused-as r (omega arith) z)
 
-  accepted-as : isEven cs ≡ true → CutAs (entriesRefusal (operator k (entry m))) k m (record { refusal = 0; count = f .count; numbers = f .numbers; columns = cs })
-  accepted-as e = rw (w, o, sign e) (record { refusal = refl; count = λ _. whole .count; numbers = λ _. whole .numbers; columns = λ _. columns-are })
+  accepted-as : isEven cs ≡ true → CutAs (entriesRefusal (operator k (entry m))) k m (record { refusal = 0; count = f .count; loose = f .loose; numbers = f .numbers; columns = cs })
+  accepted-as e = rw (w, o, sign e) (record { refusal = refl; count = λ _. whole .count; loose = λ _. whole .loose; numbers = λ _. whole .numbers; columns = λ _. columns-are })
 
 is-within-requires : tie.Need-is-within-requires
 is-within-requires c κs = search needs

@@ -45,6 +45,7 @@ pub refused-as : {n k : ℕ} {m : List ℤ} (r : Cut) → 1 ≤ n → r .refusal
 refused-as r h e = record {
   refusal = e;
   count = λ z. absurd (omega arith);
+  loose = λ z. absurd (omega arith);
   numbers = λ z. absurd (omega arith);
   columns = λ z. absurd (omega arith);
 }

@@ -12,8 +12,6 @@ use Rattle.matrix.specs.Matrix.{entry}
 use Rattle.matrix.specs.Operator.{SameOperator}
 use Rattle.matrix.specs.Laws.Array.{least-form}
 use borrow.Author.Tests.{eq-eqb, ne-eqb, lt-ltb, le-ltb}
-use Rattle.file.specs.declared.Answer.{Answer}
-use Rattle.file.specs.declared.Answer.the-variants.{Count, Refused}
 use Rattle.file.specs.File.{written, largestExponent, fileExponent, fileMatrix, fileOperator}
 use Rattle.clifford.specs.Columns.{areColumnBytes}
 use Rattle.clifford.specs.Laws.Columns.{matrix-permutation, permutation-complete, columns-valid}
@@ -25,10 +23,12 @@ use Rattle.gate_list.specs.List.{gateList}
 use Rattle.gate_list.specs.Laws.List.{listOf, list-of}
 use Rattle.sheet_bytes.specs.Bytes.{shortest, sheetBytes, sheet, sheetOperator}
 use Rattle.sheet_bytes.specs.Laws.Sheet.{length-sheet, sheet-back}
+use Rattle.operator.specs.declared.Cuts.{Cuts}
+use Rattle.operator.specs.declared.Cuts.the-variants.{Taken, Refused}
 use Rattle.operator.specs.declared.Listed as listed
 use Rattle.acceptance.specs.declared.Cut.{Cut}
 use Rattle.acceptance.specs.Acceptance.{fileRefusal}
-use Rattle.acceptance.specs.Cutting.{fileCount, fileNumbers, fileColumns, CutOf}
+use Rattle.acceptance.specs.Cutting.{fileCount, fileLoose, fileNumbers, fileColumns, CutOf}
 use Rattle.operator.specs.Promise.{refusalOf, ExactlyRefused, fileSheet, sheetAnswer, sheetBuffer, SheetPromise, GatesPromise}
 use Rattle.acceptance.specs.Laws.Acceptance.{accepted}
 use Rattle.operator.specs.Laws.Exactly.{exactly-refused, exactly-accepted}
@@ -54,6 +54,7 @@ module _ (b : List ℕ) (z : fileRefusal b ≡ 0) where
 pub record Ready (b : List ℕ) (r : Cut) : Type 0 where
   pub accepted : fileRefusal b ≡ 0
   pub count : r .count ≡ fileCount b
+  pub loose : r .loose ≡ fileLoose b
   pub small : r .count ≤ largestExponent
   pub numbers : take (r .count) (r .numbers) ≡ fileNumbers b
   pub columns : r .columns ≡ fileColumns b
@@ -70,6 +71,7 @@ ready b r c e =
     record {
       accepted = z;
       count = t;
+      loose = c .loose z;
       small = rw t (count-small b z);
       numbers = n;
       columns = c .columns z;
@@ -80,7 +82,7 @@ ready b r c e =
 -- ---- the ways out of the two calls, where the code holds r
 
 module _ (b old : List ℕ) (r : Cut) (c : CutOf b r) where
-  sheet-as : {new : List ℕ} {a : Answer} → a ≡ sheetAnswer b (length old) → new ≡ sheetBuffer b old → ExactlyRefused b (refusalOf a) → SheetPromise b old new a
+  sheet-as : {new : List ℕ} {a : Cuts} → a ≡ sheetAnswer b (length old) → new ≡ sheetBuffer b old → ExactlyRefused b (refusalOf a) → SheetPromise b old new a
   sheet-as p q x = record { answer = p; buffer = q; multiplies = λ z. sheet-multiplies b z; least = λ z. file-cutting b z .least; exactly = x }
 
   -- an accepted file's answers: no room, and none
@@ -107,13 +109,13 @@ module _ (b old : List ℕ) (r : Cut) (c : CutOf b r) where
       let l = lt-ltb (length old) (length (fileSheet b)) (rw (y .long) h) in
       sheet-as (rw (t, l)) (rw (t, l)) (six (y .accepted))
 
-  pub sheet-done : (new : List ℕ) → r .refusal ≡ 0 → r .count + shortest ≤ length old → new ≡ written old (sheetBytes (take (r .count) (r .numbers)) (r .columns)) → SheetPromise b old new (Count (r .count))
+  pub sheet-done : (new : List ℕ) → r .refusal ≡ 0 → r .count + shortest ≤ length old → new ≡ written old (sheetBytes (take (r .count) (r .numbers)) (r .columns)) → SheetPromise b old new (Taken (r .count) (r .loose))
   unfolding sheetAnswer sheetBuffer
   sheet-done new e h n =
       let y = ready b r c e in
       let t = eq-eqb (fileRefusal b) 0 (y .accepted) in
       let l = le-ltb (length old) (length (fileSheet b)) (rw (y .long) h) in
-      sheet-as (rw (t, l) (ap Count (y .count))) (rw (t, l) (n ∙ ap (written old) (y .bytes))) (none (y .accepted))
+      sheet-as (rw (t, l) (ap₂ Taken (y .count) (y .loose))) (rw (t, l) (n ∙ ap (written old) (y .bytes))) (none (y .accepted))
 
   pub gates-refused : r .refusal ≢ 0 → GatesPromise b old old (listed.the-variants.Refused (r .refusal))
   gates-refused h = record {
@@ -135,7 +137,7 @@ module _ (b old : List ℕ) (r : Cut) (c : CutOf b r) where
       }
 
   pub gates-done : (new : List ℕ) (n : ℕ) → r .refusal ≡ 0 → 256 * (r .count + 1) ≤ length old → Written (gateList (take (r .count) (r .numbers)) (r .columns)) 0 old new n
-      → GatesPromise b old new (listed.the-variants.Letters (r .count) n)
+      → GatesPromise b old new (listed.the-variants.Letters (r .count) n (r .loose))
   unfolding written
   gates-done new n e h k =
       let y = ready b r c e in
@@ -151,7 +153,7 @@ module _ (b old : List ℕ) (r : Cut) (c : CutOf b r) where
           w,
           record {
             buffer = v .buffer ∙ ap (λ x. map letter w ++ drop x old) (zero-add (length w) ∙ sym (length-map w letter));
-            answer = ap₂ listed.the-variants.Letters t (v .next ∙ zero-add (length w));
+            answer = let e = v .next ∙ zero-add (length w) in cc (t, e, y .loose);
             multiplies = g .multiplies;
             exact = g .exact;
             least = file-cutting b (y .accepted) .least;
