@@ -1,6 +1,6 @@
-// Cuts an operator: an operator file on standard input, its count and its sheet on standard output.
+// Cuts an operator: an operator file on standard input, its count, its sheet and L on standard output.
 
-use file::Answer;
+use operator::Cuts;
 ghost use Rattle.io.specs.Counts.{Counts};
 ghost use Rattle.file.specs.File.{Appended};
 ghost use Rattle.cut.specs.Output.{cutText};
@@ -12,12 +12,13 @@ fn answer(file: &[u8], out: &mut [u8; 256]) -> usize
     let mut sheet = [0u8; sheet_bytes::LONGEST];
     let answer = operator::operator_to_sheet(file, &mut sheet);
     match answer {
-        Answer::Count(count) => {
+        Cuts::Taken { count, loose } => {
             let end = count as usize + sheet_bytes::SHORTEST;
-            let next = line::write_count(count, out, 0);
-            line::write_sheet(&sheet[..end], out, next)
+            let second = line::write_count(count, out, 0);
+            let third = line::write_sheet(&sheet[..end], out, second);
+            line::write_loose(loose, out, third)
         }
-        Answer::Refused(refusal) => line::write_refused(refusal, out, 0),
+        Cuts::Refused(refusal) => line::write_refused(refusal, out, 0),
     }
 }
 

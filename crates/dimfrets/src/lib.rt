@@ -5,15 +5,15 @@ ghost use Rattle.gate.specs.Promise.{ProductPromise};
 ghost use Rattle.operator.specs.Promise.{SheetPromise, GatesPromise};
 ghost use Rattle.order.specs.Order.{orderAnswer};
 ghost use Rattle.sheet.specs.Promise.{OperatorPromise};
-ghost use Rattle.answer_word.specs.Encoding.{answerParts, listedParts, WordOf, Encodes};
+ghost use Rattle.answer_word.specs.Encoding.{answerParts, cutsParts, listedParts, WordOf, Encodes};
 
 // An operator file into a sheet.
 #[no_mangle]
 pub extern "C" fn dimfrets_operator_to_sheet(input: &[u8], output: &mut [u8]) -> u64
-    ensures { λ r. ⌜ Encodes answerParts (SheetPromise (now (input .entry)) (now (output .entry)) (now (output .exit))) r ⌝ }
+    ensures { λ r. ⌜ Encodes cutsParts (SheetPromise (now (input .entry)) (now (output .entry)) (now (output .exit))) r ⌝ }
 {
     let answer = operator::operator_to_sheet(input, output);
-    answer_word::encode_answer(answer)
+    answer_word::encode_cuts(answer)
 }
 
 // An operator file into a gate list.

@@ -5,11 +5,13 @@
 ghost use Prim.Native.Nat.{_+_, _≤_};
 ghost use lib.ListN.{length};
 ghost use Rattle.file.specs.File.{Appended};
-ghost use Rattle.text.specs.Text.{countLine, sheetLine, refusedLine, orderLine, gatesLine};
+ghost use Rattle.text.specs.Text.{countLine, sheetLine, looseLine, refusedLine, orderLine, gatesLine};
 
 const COUNT: [u8; 5] = *b"count";
 
 const SHEET: [u8; 5] = *b"sheet";
+
+const LOOSE: [u8; 5] = *b"loose";
 
 const REFUSED: [u8; 7] = *b"refused";
 
@@ -31,6 +33,14 @@ pub fn write_sheet(sheet: &[u8], out: &mut [u8], at: usize) -> usize
     ensures { λ r. ⌜ Appended (sheetLine (now (sheet .entry))) at (now (out .entry)) (now (out .exit)) r ⌝ }
 {
     text::write_line(&SHEET, sheet, out, at)
+}
+
+// The line of L.
+pub fn write_loose(l: u8, out: &mut [u8], at: usize) -> usize
+    requires { ⌜ at + length (looseLine l) ≤ length (now out) ⌝ }
+    ensures { λ r. ⌜ Appended (looseLine l) at (now (out .entry)) (now (out .exit)) r ⌝ }
+{
+    text::write_line(&LOOSE, &[l], out, at)
 }
 
 // The line of a refusal.

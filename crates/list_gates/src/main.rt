@@ -1,4 +1,4 @@
-// Lists an operator's gates: an operator file on standard input, its count and a gate list on standard output.
+// Lists an operator's gates: an operator file on standard input, its count, a gate list and L on standard output.
 
 use operator::Listed;
 ghost use Rattle.io.specs.Counts.{Counts};
@@ -11,9 +11,14 @@ fn answer(file: &[u8], out: &mut [u8; 8192]) -> usize
     let mut gates = [0u8; 7424];
     let answer = operator::operator_to_gates(file, &mut gates);
     match answer {
-        Listed::Letters { count, letters } => {
-            let next = line::write_count(count, out, 0);
-            line::write_gates(&gates[..letters], out, next)
+        Listed::Letters {
+            count,
+            letters,
+            loose,
+        } => {
+            let second = line::write_count(count, out, 0);
+            let third = line::write_gates(&gates[..letters], out, second);
+            line::write_loose(loose, out, third)
         }
         Listed::Refused(refusal) => line::write_refused(refusal, out, 0),
     }

@@ -1,6 +1,7 @@
 // A line for a call: what is handed in, and what it answers. Those of gate lists are in `show_gates`.
 
 use file::Answer;
+use operator::Cuts;
 
 // A byte that stands in no sheet and in no gate list.
 pub const UNWRITTEN: u8 = 255;
@@ -50,25 +51,25 @@ pub fn end_line(word: &[u8], answer: Answer) {
     show(b"\n");
 }
 
-// The count and the sheet of an operator file.
+// The count, the sheet and L of an operator file, or its refusal.
 pub fn show_cut(file: &[u8]) {
     let mut sheet = [UNWRITTEN; sheet_bytes::LONGEST];
-    show_answer(b": count ", operator::operator_to_sheet(file, &mut sheet));
-    show_sheet(b", sheet", front(&sheet));
+    let answer = operator::operator_to_sheet(file, &mut sheet);
+    match answer {
+        Cuts::Taken { count, loose } => {
+            show_number(b": count ", count);
+            show_sheet(b", sheet", front(&sheet));
+            show_number(b", loose ", loose);
+        }
+        Cuts::Refused(n) => show_number(b": refused ", n),
+    }
     show(b"\n");
 }
 
-// An operator file, by its count and sheet.
+// An operator file, by its count, sheet and L, or by its refusal.
 pub fn cut_case(name: &[u8], file: [u8; 73]) {
     show(name);
     show_cut(&file);
-}
-
-// An operator file, by its count alone, or by its refusal.
-pub fn count_case(name: &[u8], file: [u8; 73]) {
-    let mut sheet = [UNWRITTEN; sheet_bytes::LONGEST];
-    show(name);
-    end_line(b": count ", operator::operator_to_sheet(&file, &mut sheet));
 }
 
 // A sheet, by the count of its operator.

@@ -51,8 +51,13 @@ fn show_list(letters: &[u8]) {
 // What was written into the buffer for a gate list, if it has as many letters as the answer says.
 fn end_list(answer: Listed, buffer: &[u8]) {
     match answer {
-        Listed::Letters { count, letters } => {
+        Listed::Letters {
+            count,
+            letters,
+            loose,
+        } => {
             show::show_number(b": count ", count);
+            show::show_number(b", loose ", loose);
             let list = show::front(buffer);
             if list.len() == letters {
                 show_list(list);

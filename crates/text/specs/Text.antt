@@ -41,6 +41,13 @@ sheetWord = 115 ∷ 104 ∷ 101 ∷ 101 ∷ 116 ∷ []
 abbrev pub sheetLine : List ℕ → List ℕ
 sheetLine s = line sheetWord s
 
+-- "loose" and L: "a third line, `loose L`" (document 02, P3)
+abbrev pub looseWord : List ℕ
+looseWord = 108 ∷ 111 ∷ 111 ∷ 115 ∷ 101 ∷ []
+
+abbrev pub looseLine : ℕ → List ℕ
+looseLine l = line looseWord (l ∷ [])
+
 -- "the one line `refused N`"
 abbrev pub refusedWord : List ℕ
 refusedWord = 114 ∷ 101 ∷ 102 ∷ 117 ∷ 115 ∷ 101 ∷ 100 ∷ []

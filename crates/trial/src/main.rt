@@ -1,4 +1,4 @@
-// Document 01's trial cuts, and the cases of document 02, P1 and P2, run through the five calls: a line for each case, with the answer. I is the
+// Document 01's trial cuts, and the cases of document 02, P1 to P3, run through the five calls: a line for each case, with the answer. I is the
 // identity, and the six rows are those of the example of `cut`.
 
 // An entry of −1, in the 16 bits of an operator file.
@@ -30,27 +30,27 @@ fn diagonal(k: u8, first: u16, x: u16) -> [u8; 73] {
     file
 }
 
-// The count alone, or the refusal.
-fn count_case(name: &[u8], k: u8, first: u16, x: u16) {
-    show::count_case(name, diagonal(k, first, x));
+// The operator file of x times the identity, with another first entry, cut.
+fn cut_case(name: &[u8], k: u8, first: u16, x: u16) {
+    show::cut_case(name, diagonal(k, first, x));
 }
 
 fn operators() {
-    show::cut_case(b"I, k 0", diagonal(0, 1, 1));
-    show::cut_case(b"2 I, k 2", diagonal(2, 2, 2));
+    cut_case(b"I, k 0", 0, 1, 1);
+    cut_case(b"2 I, k 2", 2, 2, 2);
     show::cut_case(b"the six rows, k 2", EXAMPLE);
 }
 
 fn limits() {
-    count_case(b"16384 I, k 28", 28, 16384, 16384);
-    count_case(b"16384 I, k 29", 29, 16384, 16384);
-    count_case(b"entry 3, k 2", 2, 3, 2);
+    cut_case(b"16384 I, k 28", 28, 16384, 16384);
+    cut_case(b"16384 I, k 29", 29, 16384, 16384);
+    cut_case(b"entry 3, k 2", 2, 3, 2);
 }
 
 fn refused() {
-    count_case(b"zero, k 0", 0, 0, 0);
-    count_case(b"I, k 1", 1, 1, 1);
-    count_case(b"I with -1, k 0", 0, MINUS_ONE, 1);
+    cut_case(b"zero, k 0", 0, 0, 0);
+    cut_case(b"I, k 1", 1, 1, 1);
+    cut_case(b"I with -1, k 0", 0, MINUS_ONE, 1);
 }
 
 fn gate_lists() {

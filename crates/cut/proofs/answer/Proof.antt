@@ -1,13 +1,13 @@
 -- The text is that of the answer's case.
 use mathlib.Core.Path.{sym}
-use mathlib.Core.List.{[], _∷_}
+use mathlib.Core.List.{[], _∷_, _++_}
 use Prim.Native.Nat.{_+_}
 use native.Mathlib.Omega.{arith}
 use lib.ListN.{take, length-append}
 use lib.Seq.{length-take-le}
 use Rattle.file.specs.Laws.Written.{appended-as, appended-length, appended-append}
 use Rattle.sheet_bytes.specs.Bytes.{shortest}
-use Rattle.text.specs.Text.{countWord, sheetWord, refusedWord, countLine, sheetLine}
+use Rattle.text.specs.Text.{refusedWord, countLine, sheetLine, looseLine}
 use Rattle.text.specs.Laws.Text.{line-length, within}
 use Rattle.cut.specs.Laws.Output.{counted, refused}
 use borrow.Author.Needs.{needs}
@@ -30,28 +30,35 @@ add-end : tie.Need-add-end
 add-end c = search needs
 
 write-count-requires : tie.Need-write-count-requires
-write-count-requires c κs = let l = line-length countWord (c .before .before .answer .given .0 .0 ∷ []) in omega arith
+write-count-requires c κs = let k = counted _ _ _ _ (omega arith) (c .before .before .before .before .before .operator-to-sheet .ensures) _ _ (c .before .before .answer .given .1) in let r = k .room in omega arith
 
 array-share-prefix-sheet : tie.Need-array-share-prefix-sheet
-array-share-prefix-sheet c = counted _ _ _ _ (omega arith) (c .before .before .before .before .before .before .operator-to-sheet .ensures) _ (c .before .before .before .answer .given .1) .long
+array-share-prefix-sheet c = counted _ _ _ _ (omega arith) (c .before .before .before .before .before .before .operator-to-sheet .ensures) _ _ (c .before .before .before .answer .given .1) .long
 
 slice-aggregate-write-sheet : tie.Need-slice-aggregate-write-sheet
 slice-aggregate-write-sheet c =
-    let k = counted _ _ _ _ (omega arith) (c .before .before .before .before .before .before .before .operator-to-sheet .ensures) _ (c .before .before .before .before .answer .given .1) in
+    let k = counted _ _ _ _ (omega arith) (c .before .before .before .before .before .before .before .operator-to-sheet .ensures) _ _ (c .before .before .before .before .answer .given .1) in
     sym (length-take-le _ _ (k .long))
 
 write-sheet-requires : tie.Need-write-sheet-requires
 write-sheet-requires c κs =
-    let k = counted _ _ _ _ (omega arith) (c .before .before .before .before .before .before .before .before .operator-to-sheet .ensures) _ (c .before .before .before .before .before .answer .given .1) in
-    let t = c .before .before .before .before .before .answer .given .0 .0 in
-    let buffer = c .before .before .before .before .before .before .before .before .operator-to-sheet .last .1 .0 in
-    let n = length-take-le (t + shortest) buffer (k .long) in
-    let i = line-length countWord (t ∷ []) in
-    let j = line-length sheetWord (take (t + shortest) buffer) in
+    let k = counted _ _ _ _ (omega arith) (c .before .before .before .before .before .before .before .before .operator-to-sheet .ensures) _ _ (c .before .before .before .before .before .answer .given .1) in
+    let r = k .room in
     let a = c .before .before .write-count .ensures in
     let e = a .next in
     let l = appended-length a (omega arith) in
-    let m = k .small in
+    omega arith
+
+write-loose-requires : tie.Need-write-loose-requires
+write-loose-requires c κs =
+    let k = counted _ _ _ _ (omega arith) (c .before .before .before .before .before .before .before .before .before .before .operator-to-sheet .ensures) _ _ (c .before .before .before .before .before .before .before .answer .given .1) in
+    let r = k .room in
+    let t = c .before .before .before .before .before .before .before .answer .given .0 .0 in
+    let sheet = take (t + shortest) (c .before .before .before .before .before .before .before .before .before .before .operator-to-sheet .last .1 .0) in
+    let m = length-append (countLine t) (sheetLine sheet) in
+    let a = appended-append (c .before .before .before .before .write-count .ensures) (omega arith) (c .before .write-sheet .ensures) in
+    let e = a .next in
+    let l = appended-length a (omega arith) in
     omega arith
 
 enum-known-answer-2 : tie.Need-enum-known-answer-2
@@ -62,15 +69,14 @@ write-refused-requires c κs = let l = line-length refusedWord (c .before .befor
 
 returns : tie.Need-returns
 returns c =
-    let k = counted _ _ _ _ (omega arith) (c .before .before .before .before .before .before .before .before .before .operator-to-sheet .ensures) _ (c .before .before .before .before .before .before .answer .given .1) in
-    let t = c .before .before .before .before .before .before .answer .given .0 .0 in
-    let buffer = c .before .before .before .before .before .before .before .before .before .operator-to-sheet .last .1 .0 in
-    let n = length-take-le (t + shortest) buffer (k .long) in
-    let i = line-length countWord (t ∷ []) in
-    let j = line-length sheetWord (take (t + shortest) buffer) in
-    let m = k .small in
-    let a = appended-append (c .before .before .before .write-count .ensures) (omega arith) (c .write-sheet .ensures) in
-    let l = length-append (countLine t) (sheetLine (take (t + shortest) buffer)) in
+    let k = counted _ _ _ _ (omega arith) (c .before .before .before .before .before .before .before .before .before .before .before .operator-to-sheet .ensures) _ _ (c .before .before .before .before .before .before .before .before .answer .given .1) in
+    let r = k .room in
+    let t = c .before .before .before .before .before .before .before .before .answer .given .0 .0 in
+    let sheet = take (t + shortest) (c .before .before .before .before .before .before .before .before .before .before .before .operator-to-sheet .last .1 .0) in
+    let m = length-append (countLine t) (sheetLine sheet) in
+    let n = length-append (countLine t ++ sheetLine sheet) (looseLine (c .before .before .before .before .before .before .before .before .answer .given .0 .1 .0)) in
+    let two = appended-append (c .before .before .before .before .before .write-count .ensures) (omega arith) (c .before .before .write-sheet .ensures) in
+    let a = appended-append two (omega arith) (c .write-loose .ensures) in
     (appended-as (sym (k .text)) a, within a (omega arith))
 
 returns-2 : tie.Need-returns-2
@@ -93,6 +99,7 @@ answer-spec =
     array-share-prefix-sheet
     slice-aggregate-write-sheet
     write-sheet-requires
+    write-loose-requires
     enum-known-answer-2
     write-refused-requires
     returns

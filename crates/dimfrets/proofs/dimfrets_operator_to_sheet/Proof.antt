@@ -8,8 +8,8 @@ use Rattle.dimfrets.proofs.dimfrets_operator_to_sheet.Tie as tie
 operator-to-sheet-requires : tie.Need-operator-to-sheet-requires
 operator-to-sheet-requires c κs = search needs
 
-encode-answer-requires : tie.Need-encode-answer-requires
-encode-answer-requires c κs = λ e. sheet-not-zero _ _ (sym (c .before .before .operator-to-sheet .ensures .answer) ∙ e)
+encode-cuts-requires : tie.Need-encode-cuts-requires
+encode-cuts-requires c κs = λ e. sheet-not-zero _ _ (sym (c .before .before .operator-to-sheet .ensures .answer) ∙ e)
 
 same-length : tie.Need-same-length
 same-length c = search needs
@@ -19,4 +19,4 @@ returns c = search needs
 
 pub dimfrets-operator-to-sheet-spec : {M : Type 1} → statement M
 dimfrets-operator-to-sheet-spec =
-    tie.close (tie.spec operator-to-sheet-requires encode-answer-requires same-length returns)
+    tie.close (tie.spec operator-to-sheet-requires encode-cuts-requires same-length returns)

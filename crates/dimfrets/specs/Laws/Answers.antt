@@ -16,9 +16,10 @@ use Rattle.letter.specs.declared.Letter.{Letter}
 use Rattle.letter.specs.declared.Letter.the-variants.{Is, Unknown}
 use Rattle.letter.specs.Gate.{gateOf}
 use Rattle.gate.specs.Reading as reading
+use Rattle.operator.specs.declared.Cuts.the-variants as cuts
 use Rattle.operator.specs.declared.Listed as listed
 use Rattle.acceptance.specs.Acceptance.{fileRefusal}
-use Rattle.acceptance.specs.Cutting.{fileCount}
+use Rattle.acceptance.specs.Cutting.{fileCount, fileLoose}
 use Rattle.operator.specs.Promise.{fileSheet, sheetAnswer, GatesPromise}
 use Rattle.operator.specs.Laws.Promise.{count-small}
 use Rattle.sheet_bytes.specs.Sheet.{sheetRefusal, sheetLeast}
@@ -26,30 +27,40 @@ use Rattle.sheet.specs.Promise as sheet
 use Rattle.order.specs.Order.{largestSpoilage, figure, orderAnswer}
 use Rattle.answer_word.specs.Encoding.{lettersOf}
 
--- a refusal of its own number, or none
-chosen : (t : Bool) (x n : ℕ) → x ≢ 0 → cond t (Refused x) (Count n) ≢ Refused 0
-chosen true x n h e = h (cc)
-chosen false x n h e = let z : _≡_ {A = ℕ} 0 1 = cc in omega arith
+-- an answer whose refusals are apart and that can also be none
+module _ {A : Type 0} (refusal : ℕ → A) (apart : (n : ℕ) → n ≢ 0 → refusal n ≢ refusal 0) (done : A) (none : done ≢ refusal 0) where
+  -- refused with the number n, or not at all
+  chosen : (t : Bool) (n : ℕ) → n ≢ 0 → cond t (refusal n) done ≢ refusal 0
+  chosen true n h = apart n h
+  chosen false n h = none
 
--- refused with the number r where it is not 0, and else with 6 for want of room
-refused-or-short : (r n : ℕ) (t : Bool) → cond (eqb r 0) (cond t (Refused 6) (Count n)) (Refused r) ≢ Refused 0
-refused-or-short r n t = by (eqb r 0) (eqb-false r 0)
-  where
-    by : (none : Bool) → (none ≡ false → r ≢ 0) → cond none (cond t (Refused 6) (Count n)) (Refused r) ≢ Refused 0
-    by true h = chosen t 6 n (λ z. omega arith)
-    by false h = λ e. h refl (cc)
+  -- refused with the number r where it is not 0, and else with 6 for want of room
+  refused-or-short : (r : ℕ) (t : Bool) → cond (eqb r 0) (cond t (refusal 6) done) (refusal r) ≢ refusal 0
+  refused-or-short r t = by (eqb r 0) (eqb-false r 0)
+    where
+      by : (z : Bool) → (z ≡ false → r ≢ 0) → cond z (cond t (refusal 6) done) (refusal r) ≢ refusal 0
+      by true h = chosen t 6 (λ z. omega arith)
+      by false h = apart r (h refl)
 
-pub sheet-not-zero : (b : List ℕ) (n : ℕ) → sheetAnswer b n ≢ Refused 0
+refused-apart : (n : ℕ) → n ≢ 0 → Refused n ≢ Refused 0
+refused-apart n h e = h (cc)
+
+count-none : (n : ℕ) → Count n ≢ Refused 0
+count-none n e = let z : _≡_ {A = ℕ} 0 1 = cc in omega arith
+
+pub sheet-not-zero : (b : List ℕ) (n : ℕ) → sheetAnswer b n ≢ cuts.Refused 0
 unfolding sheetAnswer
-sheet-not-zero b n = refused-or-short (fileRefusal b) (fileCount b) (ltb n (length (fileSheet b)))
+sheet-not-zero b n =
+    refused-or-short cuts.Refused (λ n h e. h (cc)) (cuts.Taken (fileCount b) (fileLoose b)) (λ e. let z : _≡_ {A = ℕ} 0 1 = cc in omega arith) (fileRefusal b)
+    (ltb n (length (fileSheet b)))
 
 pub sheet-operator-not-zero : (s : List ℕ) (n : ℕ) → sheet.operatorAnswer s n ≢ Refused 0
 unfolding sheet.operatorAnswer
-sheet-operator-not-zero s n = refused-or-short (sheetRefusal s) (sheetLeast s .exponent) (ltb n fileLength)
+sheet-operator-not-zero s n = refused-or-short Refused refused-apart _ (count-none (sheetLeast s .exponent)) (sheetRefusal s) (ltb n fileLength)
 
 pub order-not-zero : (t p : ℕ) → orderAnswer t p ≢ Refused 0
 unfolding orderAnswer
-order-not-zero t p = chosen (ltb largestExponent t || ltb largestSpoilage p) 14 (figure t p) (λ z. omega arith)
+order-not-zero t p = chosen Refused refused-apart _ (count-none (figure t p)) (ltb largestExponent t || ltb largestSpoilage p) 14 (λ z. omega arith)
 
 -- ---- gate lists read
 
@@ -66,7 +77,7 @@ module _ (n : ℕ) where
 
   read-from : (w : List Gate) (bs : List ℕ) → reading.operatorAnswer n (reading.readFrom w bs) ≢ Refused 0
   unfolding reading.readFrom
-  read-from w [] = chosen (ltb n fileLength) 6 (reading.leastOf w .exponent) (λ z. omega arith)
+  read-from w [] = chosen Refused refused-apart _ (count-none (reading.leastOf w .exponent)) (ltb n fileLength) 6 (λ z. omega arith)
   read-from w (b ∷ bs) = read-letter w (λ v. reading.readFrom v bs) (gateOf b) (λ v. read-from v bs)
 
   pub gates-operator-not-zero : (bs : List ℕ) → reading.operatorAnswer n (reading.reading bs) ≢ Refused 0

@@ -5,7 +5,7 @@ use native.Mathlib.Omega.{arith}
 use lib.ListN.{take, length-append}
 use lib.Seq.{length-take-le}
 use Rattle.file.specs.Laws.Written.{appended-length, appended-append}
-use Rattle.text.specs.Text.{countWord, refusedWord, countLine, gatesLine, refusedLine}
+use Rattle.text.specs.Text.{refusedWord, countLine, gatesLine, looseLine, refusedLine}
 use Rattle.text.specs.Laws.Text.{line-length, within}
 use Rattle.list_gates.specs.Laws.Output.{lettered, refused}
 use borrow.Author.Needs.{needs}
@@ -22,29 +22,35 @@ enum-known-answer : tie.Need-enum-known-answer
 enum-known-answer c = search needs
 
 write-count-requires : tie.Need-write-count-requires
-write-count-requires c κs = let l = line-length countWord (c .before .before .answer .given .0 .0 ∷ []) in omega arith
+write-count-requires c κs = let k = lettered _ _ _ _ (omega arith) (c .before .before .before .before .before .operator-to-gates .ensures) _ _ _ (c .before .before .answer .given .1) in let r = k .room in omega arith
 
 array-share-prefix-gates : tie.Need-array-share-prefix-gates
-array-share-prefix-gates c = lettered _ _ _ _ (omega arith) (c .before .before .before .before .before .before .operator-to-gates .ensures) _ _ (c .before .before .before .answer .given .1) .long
+array-share-prefix-gates c = lettered _ _ _ _ (omega arith) (c .before .before .before .before .before .before .operator-to-gates .ensures) _ _ _ (c .before .before .before .answer .given .1) .long
 
 slice-aggregate-write-gates : tie.Need-slice-aggregate-write-gates
 slice-aggregate-write-gates c =
-    let k = lettered _ _ _ _ (omega arith) (c .before .before .before .before .before .before .before .operator-to-gates .ensures) _ _ (c .before .before .before .before .answer .given .1) in
+    let k = lettered _ _ _ _ (omega arith) (c .before .before .before .before .before .before .before .operator-to-gates .ensures) _ _ _ (c .before .before .before .before .answer .given .1) in
     sym (length-take-le _ _ (k .long))
 
 write-gates-requires : tie.Need-write-gates-requires
 write-gates-requires c κs =
-    let k = lettered _ _ _ _ (omega arith) (c .before .before .before .before .before .before .before .before .operator-to-gates .ensures) _ _ (c .before .before .before .before .before .answer .given .1) in
-    let t = c .before .before .before .before .before .answer .given .0 .0 in
-    let n = c .before .before .before .before .before .answer .given .0 .1 .0 in
-    let letters = take n (c .before .before .before .before .before .before .before .before .operator-to-gates .last .1 .0) in
-    let m = length-take-le n (c .before .before .before .before .before .before .before .before .operator-to-gates .last .1 .0) (k .long) in
-    let i = line-length countWord (t ∷ []) in
-    let j = length-append letters (10 ∷ []) in
+    let k = lettered _ _ _ _ (omega arith) (c .before .before .before .before .before .before .before .before .operator-to-gates .ensures) _ _ _ (c .before .before .before .before .before .answer .given .1) in
+    let r = k .room in
     let a = c .before .before .write-count .ensures in
     let e = a .next in
     let l = appended-length a (omega arith) in
-    let s = k .short in
+    omega arith
+
+write-loose-requires : tie.Need-write-loose-requires
+write-loose-requires c κs =
+    let k = lettered _ _ _ _ (omega arith) (c .before .before .before .before .before .before .before .before .before .before .operator-to-gates .ensures) _ _ _ (c .before .before .before .before .before .before .before .answer .given .1) in
+    let r = k .room in
+    let t = c .before .before .before .before .before .before .before .answer .given .0 .0 in
+    let letters = take (c .before .before .before .before .before .before .before .answer .given .0 .1 .0) (c .before .before .before .before .before .before .before .before .before .before .operator-to-gates .last .1 .0) in
+    let m = length-append (countLine t) (gatesLine letters) in
+    let a = appended-append (c .before .before .before .before .write-count .ensures) (omega arith) (c .before .write-gates .ensures) in
+    let e = a .next in
+    let l = appended-length a (omega arith) in
     omega arith
 
 enum-known-answer-2 : tie.Need-enum-known-answer-2
@@ -55,17 +61,16 @@ write-refused-requires c κs = let l = line-length refusedWord (c .before .befor
 
 returns : tie.Need-returns
 returns c =
-    let k = lettered _ _ _ _ (omega arith) (c .before .before .before .before .before .before .before .before .before .operator-to-gates .ensures) _ _ (c .before .before .before .before .before .before .answer .given .1) in
-    let t = c .before .before .before .before .before .before .answer .given .0 .0 in
-    let n = c .before .before .before .before .before .before .answer .given .0 .1 .0 in
-    let letters = take n (c .before .before .before .before .before .before .before .before .before .operator-to-gates .last .1 .0) in
-    let m = length-take-le n (c .before .before .before .before .before .before .before .before .before .operator-to-gates .last .1 .0) (k .long) in
-    let i = line-length countWord (t ∷ []) in
-    let j = length-append letters (10 ∷ []) in
-    let s = k .short in
-    let a = appended-append (c .before .before .before .write-count .ensures) (omega arith) (c .write-gates .ensures) in
-    let l = length-append (countLine t) (gatesLine letters) in
-    (record { text = countLine t ++ gatesLine letters; says = k .text; stands = a }, within a (omega arith))
+    let k = lettered _ _ _ _ (omega arith) (c .before .before .before .before .before .before .before .before .before .before .before .operator-to-gates .ensures) _ _ _ (c .before .before .before .before .before .before .before .before .answer .given .1) in
+    let r = k .room in
+    let t = c .before .before .before .before .before .before .before .before .answer .given .0 .0 in
+    let letters = take (c .before .before .before .before .before .before .before .before .answer .given .0 .1 .0) (c .before .before .before .before .before .before .before .before .before .before .before .operator-to-gates .last .1 .0) in
+    let loose = c .before .before .before .before .before .before .before .before .answer .given .0 .1 .1 .0 in
+    let m = length-append (countLine t) (gatesLine letters) in
+    let n = length-append (countLine t ++ gatesLine letters) (looseLine loose) in
+    let two = appended-append (c .before .before .before .before .before .write-count .ensures) (omega arith) (c .before .before .write-gates .ensures) in
+    let a = appended-append two (omega arith) (c .write-loose .ensures) in
+    (record { text = countLine t ++ gatesLine letters ++ looseLine loose; says = k .text; stands = a }, within a (omega arith))
 
 returns-2 : tie.Need-returns-2
 returns-2 c =
@@ -85,6 +90,7 @@ answer-spec =
     array-share-prefix-gates
     slice-aggregate-write-gates
     write-gates-requires
+    write-loose-requires
     enum-known-answer-2
     write-refused-requires
     returns

@@ -1,53 +1,60 @@
 -- The text by what the call for a gate list answers, where the buffer has room for every list.
 use mathlib.Core.Path.{_≡_, sym, ap, ap₂, _∙_}
-use mathlib.Core.List.{List, _++_, map}
-use Prim.Native.Nat.{ℕ, _≤_}
+use mathlib.Core.List.{List, [], _∷_, _++_, map}
+use Prim.Native.Nat.{ℕ, _+_, _≤_}
 use native.Mathlib.Decide.{ℕ-discrete}
 use native.Mathlib.Omega.{arith}
 use lib.ListN.{length, take, drop, length-append, length-map}
-use lib.Seq.{take-at}
+use lib.Seq.{take-at, length-take-le}
 use Rattle.file.specs.File.{written}
 use Rattle.letter.specs.declared.Gate.{Gate}
 use Rattle.letter.specs.Gate.{letter}
 use Rattle.operator.specs.declared.Listed.{Listed}
 use Rattle.operator.specs.declared.Listed.the-variants.{Letters, Refused}
 use Rattle.acceptance.specs.Acceptance.{fileRefusal}
-use Rattle.acceptance.specs.Cutting.{fileCount}
+use Rattle.acceptance.specs.Cutting.{fileCount, fileLoose}
 use Rattle.operator.specs.Promise.{Handed, GatesPromise}
 use Rattle.operator.specs.Laws.Promise.{count-small}
-use Rattle.text.specs.Text.{countLine, gatesLine, refusedLine}
+use Rattle.text.specs.Text.{countWord, looseWord, countLine, gatesLine, looseLine, refusedLine}
+use Rattle.text.specs.Laws.Text.{line-length}
 use Rattle.list_gates.specs.Output.{ListText}
 
--- after a count and a number of letters
-pub record Lettered (b new : List ℕ) (t n : ℕ) : Type 0 where
-  pub short : n ≤ 7424
+-- after a count, a number of letters and L
+pub record Lettered (b new : List ℕ) (t n l : ℕ) : Type 0 where
   pub long : n ≤ length new
-  pub text : ListText b (countLine t ++ gatesLine (take n new))
+  pub text : ListText b (countLine t ++ gatesLine (take n new) ++ looseLine l)
+  -- room for the three lines
+  pub room : length (countLine t) + length (gatesLine (take n new)) + length (looseLine l) ≤ 8192
 
 module _ (b old new : List ℕ) (a : Listed) (room : 7424 ≤ length old) (p : GatesPromise b old new a) where
   handed : (z : fileRefusal b ≡ 0) → (w : List Gate) × Handed b old new a w
   handed z = let k = count-small b z in p .handed z (omega arith)
 
-  done : (z : fileRefusal b ≡ 0) (w : List Gate) → Handed b old new a w → (t n : ℕ) → t ≡ fileCount b → n ≡ length w → Lettered b new t n
+  done : (z : fileRefusal b ≡ 0) (w : List Gate) → Handed b old new a w → (t n l : ℕ) → t ≡ fileCount b → n ≡ length w → l ≡ fileLoose b → Lettered b new t n l
   unfolding written
-  done z w h t n e f =
+  done z w h t n l e f q =
       let k = count-small b z in
       let s = h .short in
       let m : length (map letter w) ≡ n = length-map w letter ∙ sym f in
-      let l = ap length (h .buffer) ∙ length-append (map letter w) (drop (length (map letter w)) old) in
+      let o = ap length (h .buffer) ∙ length-append (map letter w) (drop (length (map letter w)) old) in
       let g : take n new ≡ map letter w = ap (take n) (h .buffer) ∙ take-at (map letter w) (drop (length (map letter w)) old) n m in
       record {
-        short = omega arith;
         long = omega arith;
+        room =
+            let i = line-length countWord (t ∷ []) in
+            let j = length-append (take n new) (10 ∷ []) in
+            let p = line-length looseWord (l ∷ []) in
+            let u = length-take-le n new (omega arith) in
+            omega arith;
         text = record {
           refused = λ x. absurd (x z);
-          listed = λ _. (w, ap₂ (λ x y. countLine x ++ gatesLine y) e g, record { multiplies = h .multiplies; exact = h .exact; fewest = h .fewest });
+          listed = λ _. (w, (cc (e, g, q)), record { multiplies = h .multiplies; exact = h .exact; fewest = h .fewest });
         };
       }
 
-  pub lettered : (t n : ℕ) → a ≡ Letters t n → Lettered b new t n
-  lettered t n e = elim (ℕ-discrete (fileRefusal b) 0) [
-    | yes z ↦ let (w, h) = handed z in let f = h .answer in done z w h t n (cc) (cc)
+  pub lettered : (t n l : ℕ) → a ≡ Letters t n l → Lettered b new t n l
+  lettered t n l e = elim (ℕ-discrete (fileRefusal b) 0) [
+    | yes z ↦ let (w, h) = handed z in let f = h .answer in done z w h t n l (cc) (cc) (cc)
     | no x ↦ let f = p .refused x .0 in let y : _≡_ {A = ℕ} 0 1 = cc in absurd (omega arith)
   ]
 
