@@ -51,7 +51,11 @@ pub fn operator_to_sheet(bytes: &[u8], out: &mut [u8]) -> Cuts
 
 // What the call for a gate list answers: the count with the number of letters written and L, or the refusal's number.
 pub enum Listed {
-    Letters { count: u8, letters: usize, loose: u8 },
+    Letters {
+        count: u8,
+        letters: usize,
+        loose: u8,
+    },
     Refused(u8),
 }
 
@@ -73,5 +77,9 @@ pub fn operator_to_gates(bytes: &[u8], out: &mut [u8]) -> Listed
         return Listed::Refused(6);
     }
     let letters = gate_list::write_list(count, numbers, columns, out);
-    Listed::Letters { count, letters, loose }
+    Listed::Letters {
+        count,
+        letters,
+        loose,
+    }
 }

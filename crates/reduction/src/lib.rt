@@ -47,11 +47,11 @@ pub fn cut_once(m: [i64; 36]) -> Step
 {
     let masks = residue::row_masks(&m);
     let g = residue::first_fit(masks);
-    let loose = residue::has_even_row(masks);
+    let even_row = residue::has_even_row(masks);
     let matrix = cut_by(m, g);
     Step {
         number: g as u8,
-        loose,
+        loose: even_row,
         matrix,
     }
 }

@@ -1,5 +1,5 @@
--- Document 01's trial cuts that are marked to be proved of the definitions, with the last byte of document 02, P2, and that request's own and
--- the orders of P1: a table of cases, and the test that each passes.
+-- Document 01's trial cuts that are marked to be proved of the definitions, with the last byte of document 02, P2, and the L of P3, that
+-- requests' own and the orders of P1: a table of cases, and the test that each passes.
 use mathlib.Core.Bool.{Bool, true, false, _&&_}
 use mathlib.Core.List.{List, [], _∷_}
 use Prim.Native.Nat.{ℕ}
@@ -15,20 +15,21 @@ use Rattle.letter.specs.declared.Gate.the-variants.{H1, Cz, Cs}
 use Rattle.gate.specs.Product.{productOf}
 use Rattle.gate.specs.Reading.{productFile}
 use Rattle.acceptance.specs.Acceptance.{fileRefusal}
+use Rattle.acceptance.specs.Cutting.{fileLoose}
 use Rattle.operator.specs.Promise.{fileSheet}
 use Rattle.sheet_bytes.specs.Bytes.{sheetOf}
 use Rattle.sheet_bytes.specs.Sheet.{sheetRefusal}
 use Rattle.order.specs.Order.{orderAnswer}
 
 pub data Trial : Type 0 where
-  -- the file of this exponent and matrix is accepted and has this sheet
-  cuts : ℕ → Matrix → List ℕ → Trial
+  -- the file of this exponent and matrix is accepted and has this sheet, and so many cuts that grouped as 2 and 4
+  cuts : ℕ → Matrix → List ℕ → ℕ → Trial
   -- the file of this exponent and matrix earns this refusal
   fileRefused : ℕ → Matrix → ℕ → Trial
   -- these bytes, read as a sheet, earn this refusal
   sheetRefused : List ℕ → ℕ → Trial
-  -- this list multiplies to an operator with this sheet
-  multiplies : List Gate → List ℕ → Trial
+  -- this list multiplies to an operator with this sheet, and so many cuts that grouped as 2 and 4
+  multiplies : List Gate → List ℕ → ℕ → Trial
   -- this list's product is written as the file of this exponent and matrix
   equals : List Gate → ℕ → Matrix → Trial
   -- this count and this spoilage order so many states
@@ -40,10 +41,11 @@ counts (Count m) n = eqb m n
 counts (Refused m) n = false
 
 abbrev pub passes : Trial → Bool
-passes (cuts k M s) = eqb (fileRefusal (fileOf k (listed M))) 0 && sameList (fileSheet (fileOf k (listed M))) s
+passes (cuts k M s l) =
+    eqb (fileRefusal (fileOf k (listed M))) 0 && (sameList (fileSheet (fileOf k (listed M))) s && eqb (fileLoose (fileOf k (listed M))) l)
 passes (fileRefused k M n) = eqb (fileRefusal (fileOf k (listed M))) n
 passes (sheetRefused s n) = eqb (sheetRefusal s) n
-passes (multiplies w s) = sameList (sheetOf (productOf w)) s
+passes (multiplies w s l) = sameList (sheetOf (productOf w)) s && eqb (fileLoose (productFile w)) l
 passes (equals w k M) = sameList (productFile w) (fileOf k (listed M))
 passes (orders t p n) = counts (orderAnswer t p) n
 
@@ -51,13 +53,14 @@ abbrev pub allPass : List Trial → Bool
 allPass [] = true
 allPass (t ∷ ts) = passes t && allPass ts
 
--- the identity; twice the identity, k 2; two sheets that earn 13; a last byte above 1, also of a sheet that would earn 13; a negative column 1;
+-- the identity; twice the identity, k 2; twice the product of `CHC`, k 4; two sheets that earn 13; a last byte above 1, also of a sheet that would earn 13; a negative column 1;
 -- columns that are no Clifford; the identity with −1 in row 1; `C`; `CC` and `Z`; `HH`, which is the identity; `ZZ`, which is its negative; eight
 -- `C`, which are the identity, count 0; `CHC`; the orders
 unfoldable pub trials : List Trial
 trials =
-    cuts 0 δ (1 ∷ 2 ∷ 3 ∷ 4 ∷ 5 ∷ 6 ∷ 0 ∷ []) ∷
-    cuts 2 (λ r c. pos 2 *ℤ δ r c) (1 ∷ 2 ∷ 3 ∷ 4 ∷ 5 ∷ 6 ∷ 0 ∷ []) ∷
+    cuts 0 δ (1 ∷ 2 ∷ 3 ∷ 4 ∷ 5 ∷ 6 ∷ 0 ∷ []) 0 ∷
+    cuts 2 (λ r c. pos 2 *ℤ δ r c) (1 ∷ 2 ∷ 3 ∷ 4 ∷ 5 ∷ 6 ∷ 0 ∷ []) 0 ∷
+    cuts 4 (λ r c. pos 2 *ℤ productOf (Cs ∷ H1 ∷ Cs ∷ []) .matrix r c) (3 ∷ 13 ∷ 3 ∷ 130 ∷ 1 ∷ 4 ∷ 5 ∷ 6 ∷ 0 ∷ []) 1 ∷
     sheetRefused (13 ∷ 3 ∷ 1 ∷ 2 ∷ 3 ∷ 4 ∷ 5 ∷ 6 ∷ 0 ∷ []) 13 ∷
     sheetRefused (3 ∷ 3 ∷ 1 ∷ 2 ∷ 3 ∷ 4 ∷ 5 ∷ 6 ∷ 0 ∷ []) 13 ∷
     sheetRefused (1 ∷ 2 ∷ 3 ∷ 4 ∷ 5 ∷ 6 ∷ 2 ∷ []) 15 ∷
@@ -65,14 +68,14 @@ trials =
     sheetRefused (129 ∷ 130 ∷ 131 ∷ 132 ∷ 133 ∷ 134 ∷ 0 ∷ []) 15 ∷
     sheetRefused (129 ∷ 2 ∷ 3 ∷ 4 ∷ 5 ∷ 6 ∷ 0 ∷ []) 12 ∷
     fileRefused 0 (replaced 0 (λ c. negsuc 0 *ℤ δ 0 c) δ) 5 ∷
-    multiplies (Cs ∷ []) (3 ∷ 1 ∷ 2 ∷ 3 ∷ 4 ∷ 5 ∷ 6 ∷ 0 ∷ []) ∷
-    multiplies (Cs ∷ Cs ∷ []) (2 ∷ 129 ∷ 6 ∷ 5 ∷ 132 ∷ 131 ∷ 0 ∷ []) ∷
-    multiplies (Cz ∷ []) (2 ∷ 129 ∷ 6 ∷ 5 ∷ 132 ∷ 131 ∷ 0 ∷ []) ∷
+    multiplies (Cs ∷ []) (3 ∷ 1 ∷ 2 ∷ 3 ∷ 4 ∷ 5 ∷ 6 ∷ 0 ∷ []) 0 ∷
+    multiplies (Cs ∷ Cs ∷ []) (2 ∷ 129 ∷ 6 ∷ 5 ∷ 132 ∷ 131 ∷ 0 ∷ []) 0 ∷
+    multiplies (Cz ∷ []) (2 ∷ 129 ∷ 6 ∷ 5 ∷ 132 ∷ 131 ∷ 0 ∷ []) 0 ∷
     equals (H1 ∷ H1 ∷ []) 0 δ ∷
     equals (Cz ∷ Cz ∷ []) 0 (λ r c. negsuc 0 *ℤ δ r c) ∷
-    multiplies (Cz ∷ Cz ∷ []) (1 ∷ 2 ∷ 3 ∷ 4 ∷ 5 ∷ 6 ∷ 1 ∷ []) ∷
+    multiplies (Cz ∷ Cz ∷ []) (1 ∷ 2 ∷ 3 ∷ 4 ∷ 5 ∷ 6 ∷ 1 ∷ []) 0 ∷
     equals (Cs ∷ Cs ∷ Cs ∷ Cs ∷ Cs ∷ Cs ∷ Cs ∷ Cs ∷ []) 0 δ ∷
-    multiplies (Cs ∷ H1 ∷ Cs ∷ []) (3 ∷ 13 ∷ 3 ∷ 130 ∷ 1 ∷ 4 ∷ 5 ∷ 6 ∷ 0 ∷ []) ∷
+    multiplies (Cs ∷ H1 ∷ Cs ∷ []) (3 ∷ 13 ∷ 3 ∷ 130 ∷ 1 ∷ 4 ∷ 5 ∷ 6 ∷ 0 ∷ []) 1 ∷
     orders 10 50 10 ∷
     orders 10 150 12 ∷
     orders 28 50 29 ∷

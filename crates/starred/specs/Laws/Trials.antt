@@ -10,7 +10,8 @@ use Rattle.matrix.specs.Array.{isOrthogonal, isWithin, rowMask, allEven, leastF
 use Rattle.file.specs.File.{fileMatrix, fileOf}
 use Rattle.clifford.specs.Columns.{isEven, arePermutation, columnByte}
 use Rattle.residue.specs.Generator.{table, place, generator, fits, firstFit}
-use Rattle.reduction.specs.Reduction.{generators, remainder, normalForm}
+use Rattle.grouping.specs.Grouping.{groupSize, inGroupsOf, isLoose}
+use Rattle.reduction.specs.Reduction.{generators, remainder, looseCuts, normalForm}
 use Rattle.gate.specs.Product.{image, productOf}
 use Rattle.gate.specs.Reading.{leastOf}
 use Rattle.acceptance.specs.Acceptance.{fileRefusal}
@@ -20,5 +21,5 @@ use Rattle.order.specs.Order.{nearest, orderAnswer}
 use Rattle.starred.specs.Trials.{trials, allPass}
 
 pub trials-pass : allPass trials ≡ true
-unfolding trials parity sum everyFrom firstFrom tabulate bits total δ replaced listed skip det pow lib.IntN.one isOrthogonal isWithin rowMask allEven leastForm fileMatrix fileOf isEven arePermutation columnByte table place generator fits firstFit generators remainder sheetBytes sheet normalForm image productOf leastOf fileRefusal sheetRefusal nearest orderAnswer
+unfolding trials parity sum everyFrom firstFrom tabulate bits total δ replaced listed skip det pow lib.IntN.one isOrthogonal isWithin rowMask allEven leastForm fileMatrix fileOf isEven arePermutation columnByte table place generator fits firstFit groupSize inGroupsOf isLoose generators remainder looseCuts sheetBytes sheet normalForm image productOf leastOf fileRefusal sheetRefusal nearest orderAnswer
 trials-pass = refl
