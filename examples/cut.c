@@ -1,4 +1,4 @@
-/* Cuts the operator file on standard input, as the program `cut` does: the count and the sheet, or the refusal. */
+/* Cuts the operator file on standard input, as the program `cut` does: the count, the sheet and L, or the refusal. */
 #include <stdio.h>
 
 #include "dimfrets.h"
@@ -17,6 +17,6 @@ int main(void)
     printf("count %u\nsheet", dimfrets_value(answer));
     for (unsigned n = 0; n < dimfrets_value(answer) + DIMFRETS_MIN_SHEET; n++)
         printf(" %u", sheet[n]);
-    printf("\n");
+    printf("\nloose %u\n", dimfrets_loose(answer));
     return 0;
 }

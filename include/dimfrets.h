@@ -9,7 +9,9 @@
  *             other bits are 0
  *   8 to 31   the value: the count, or the figure of states to order
  *   32 to 47  the length: the letters written; 0 unless a gate list was written
- *   48 to 63  0
+ *   48 to 55  L: the cuts whose rows grouped as 2 and 4; 0 unless an operator was
+ *             cut
+ *   56 to 63  0
  *
  * The functions at the end of this file take a word apart.
  *
@@ -75,7 +77,8 @@ enum dimfrets_refusal {
  * six column bytes of a Clifford whose column 1 is positive, and a last byte, 0 if
  * the operator is their product and 1 if it is the negative of that. Two operators
  * agree up to sign exactly when their sheets agree before the last byte. Answers
- * the count t.
+ * the count t and L, the number of cuts whose rows grouped as 2 and 4. L is 0 for
+ * a Clifford and below t for every other operator; it is the same for M and -M.
  * Refusals, the first that holds: 1, 2, 3, 4, 5, 6 (out_len below t + 7).
  */
 uint64_t dimfrets_operator_to_sheet(const uint8_t *in, size_t in_len,
@@ -85,7 +88,7 @@ uint64_t dimfrets_operator_to_sheet(const uint8_t *in, size_t in_len,
  * Cuts an operator into gates.
  * Reads an operator file at `in`. Writes a gate list at `out` that multiplies to
  * the operator: letters H h S s Z C, exactly t of them C, at most 256 * (t + 1)
- * in all. Answers the count t and the number of letters.
+ * in all. Answers the count t, the number of letters, and L as for the sheet.
  * Refusals, the first that holds: 1, 2, 3, 4, 5, 6 (out_len below 256 * (t + 1),
  * however many letters there are).
  */
@@ -143,6 +146,12 @@ static inline unsigned dimfrets_value(uint64_t answer)
 static inline size_t dimfrets_length(uint64_t answer)
 {
     return (size_t)(answer >> 32 & 0xFFFF);
+}
+
+/* L, the number of cuts whose rows grouped as 2 and 4; 0 unless an operator was cut. */
+static inline unsigned dimfrets_loose(uint64_t answer)
+{
+    return (unsigned)(answer >> 48 & 0xFF);
 }
 
 #ifdef __cplusplus

@@ -29,8 +29,8 @@ const SUBJECTS: [Subject; 5] = [
     Subject {
         name: "operator_to_sheet",
         input: operator_file,
-        dimfrets: |file, out| dimfrets::operator_to_sheet(file, out).unwrap().into(),
-        plain: |file, out| plain::operator_to_sheet(file, out).unwrap().into(),
+        dimfrets: |file, out| dimfrets::operator_to_sheet(file, out).unwrap().count.into(),
+        plain: |file, out| plain::operator_to_sheet(file, out).unwrap().count.into(),
     },
     Subject {
         name: "operator_to_gates",

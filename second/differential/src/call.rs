@@ -29,12 +29,27 @@ pub const CALLS: [Call; 5] = [
 /// What a call answered.
 #[derive(Clone, Copy, Debug, PartialEq, Eq)]
 pub enum Answer {
-    /// The count, or the figure of states, and the number of letters written.
-    Count(u64, usize),
+    /// The count, or the figure of states, the number of letters written, and L.
+    Count {
+        count: u64,
+        letters: usize,
+        loose: u8,
+    },
     /// The refusal's number.
     Refused(u8),
     /// A word that the interface does not know.
     Unknown,
+}
+
+impl Answer {
+    /// The count, or the figure of states, with nothing beside it.
+    pub fn count(count: u64) -> Answer {
+        Answer::Count {
+            count,
+            letters: 0,
+            loose: 0,
+        }
+    }
 }
 
 impl Call {
@@ -52,9 +67,12 @@ impl Call {
     /// Runs the library under test on lent bytes.
     pub fn tested(self, input: &[u8], out: &mut [u8]) -> Answer {
         let call = || match self {
-            Call::OperatorToSheet => of_refusal(dimfrets::operator_to_sheet(input, out)),
+            Call::OperatorToSheet => match dimfrets::operator_to_sheet(input, out) {
+                Ok(cuts) => of_cuts(cuts.count, 0, cuts.loose),
+                Err(refusal) => Answer::Refused(refusal.number()),
+            },
             Call::OperatorToGates => match dimfrets::operator_to_gates(input, out) {
-                Ok(written) => Answer::Count(written.count.into(), written.letters),
+                Ok(written) => of_cuts(written.count, written.letters, written.loose),
                 Err(refusal) => Answer::Refused(refusal.number()),
             },
             Call::GatesToOperator => of_refusal(dimfrets::gates_to_operator(input, out)),
@@ -69,9 +87,12 @@ impl Call {
     /// Runs the plain implementation on lent bytes.
     pub fn plain(self, input: &[u8], out: &mut [u8]) -> Answer {
         match self {
-            Call::OperatorToSheet => of_number(plain::operator_to_sheet(input, out)),
+            Call::OperatorToSheet => match plain::operator_to_sheet(input, out) {
+                Ok(cuts) => of_cuts(cuts.count, 0, cuts.loose),
+                Err(number) => Answer::Refused(number),
+            },
             Call::OperatorToGates => match plain::operator_to_gates(input, out) {
-                Ok((count, letters)) => Answer::Count(count.into(), letters),
+                Ok((cuts, letters)) => of_cuts(cuts.count, letters, cuts.loose),
                 Err(number) => Answer::Refused(number),
             },
             Call::GatesToOperator => of_number(plain::gates_to_operator(input, out)),
@@ -99,7 +120,15 @@ fn of_refusal(answer: Result<u8, Refusal>) -> Answer {
 
 fn of_number(answer: Result<impl Into<u64>, u8>) -> Answer {
     match answer {
-        Ok(count) => Answer::Count(count.into(), 0),
+        Ok(count) => Answer::count(count.into()),
         Err(number) => Answer::Refused(number),
+    }
+}
+
+fn of_cuts(count: u8, letters: usize, loose: u8) -> Answer {
+    Answer::Count {
+        count: count.into(),
+        letters,
+        loose,
     }
 }

@@ -71,7 +71,7 @@ impl Judge {
     fn needed(&mut self, call: Call, input: &[u8]) -> usize {
         let mut sheet = [0; MAX_SHEET];
         let mut count = || match plain::operator_to_sheet(input, &mut sheet) {
-            Ok(count) => usize::from(count),
+            Ok(cuts) => usize::from(cuts.count),
             Err(_) => self.random.below(29),
         };
         match call {
@@ -103,7 +103,9 @@ impl Case<'_> {
             "the plain implementation changed a byte outside the output",
         );
         match (self.call, *tested) {
-            (Call::OperatorToGates, Answer::Count(count, _)) => self.check_gates(count as usize),
+            (Call::OperatorToGates, Answer::Count { count, .. }) => {
+                self.check_gates(count as usize)
+            }
             _ => self.demand(tested_out.same(plain_out), "the output differs"),
         }
     }
@@ -131,7 +133,7 @@ impl Case<'_> {
 
     /// The number of bytes that a call with this answer writes.
     fn written(&self, answer: Answer) -> usize {
-        let Answer::Count(count, letters) = answer else {
+        let Answer::Count { count, letters, .. } = answer else {
             return 0;
         };
         match self.call {
@@ -151,8 +153,8 @@ impl Case<'_> {
     /// The last byte of the sheet that was written or read, if one was.
     fn last_byte(&self) -> Option<u8> {
         let sheet = match (self.call, self.tested.0) {
-            (Call::OperatorToSheet, Answer::Count(..)) => self.output(),
-            (Call::SheetToOperator, Answer::Count(..)) => self.input,
+            (Call::OperatorToSheet, Answer::Count { .. }) => self.output(),
+            (Call::SheetToOperator, Answer::Count { .. }) => self.input,
             _ => return None,
         };
         sheet.last().copied()
@@ -179,7 +181,11 @@ impl Case<'_> {
 /// The answer as far as the papers settle it.
 fn without_letters(answer: &Answer) -> Answer {
     match *answer {
-        Answer::Count(count, _) => Answer::Count(count, 0),
+        Answer::Count { count, loose, .. } => Answer::Count {
+            count,
+            letters: 0,
+            loose,
+        },
         other => other,
     }
 }

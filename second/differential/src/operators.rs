@@ -52,10 +52,10 @@ pub fn run(judge: &mut Judge) {
 /// An accepted operator, at its least or a larger exponent.
 fn accepted(random: &mut Random) -> Operator {
     let count = random.below(usize::from(MAX_EXPONENT) + 1) as u8;
-    let operator = if random.chance(8) {
-        Walk::reaching(random, count).product
-    } else {
-        samples::operator(random, count)
+    let operator = match random.below(8) {
+        0 => Walk::reaching(random, count).product,
+        1 | 2 => samples::operator_by_loose(random, count),
+        _ => samples::operator(random, count),
     };
     if random.chance(2) {
         return operator;

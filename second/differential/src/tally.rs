@@ -1,14 +1,18 @@
-//! How often each call ran, each refusal came, and each count, or figure of states, and each last
-//! byte of a sheet was seen.
+//! How often each call ran, each refusal came, and each count, or figure of states, each L and each
+//! last byte of a sheet was seen.
 
 use crate::call::{Answer, Call, CALLS};
 
 const REFUSALS: usize = 15;
 const COUNTS: usize = 29;
 const FIGURES: usize = 57;
+const LOOSE: usize = 28;
 const LAST_BYTES: usize = 2;
 const LEAST_INPUTS: u64 = 200_000;
 const LEAST_PER_REFUSAL: u64 = 1000;
+
+/// The calls that cut an operator; L is below the count.
+const CUTTING_CALLS: [Call; 2] = [Call::OperatorToSheet, Call::OperatorToGates];
 
 /// The calls that write or read sheets.
 const SHEET_CALLS: [Call; 2] = [Call::OperatorToSheet, Call::SheetToOperator];
@@ -18,6 +22,7 @@ pub struct Tally {
     inputs: [u64; CALLS.len()],
     refusals: [u64; REFUSALS],
     counts: [Vec<u64>; CALLS.len()],
+    loose: [[u64; LOOSE]; CALLS.len()],
     last_bytes: [[u64; LAST_BYTES]; CALLS.len()],
 }
 
@@ -27,6 +32,7 @@ impl Tally {
             inputs: [0; CALLS.len()],
             refusals: [0; REFUSALS],
             counts: CALLS.map(|call| vec![0; counts(call)]),
+            loose: [[0; LOOSE]; CALLS.len()],
             last_bytes: [[0; LAST_BYTES]; CALLS.len()],
         }
     }
@@ -36,7 +42,10 @@ impl Tally {
         self.inputs[call as usize] += 1;
         match answer {
             Answer::Refused(number) => self.refusals[usize::from(number) - 1] += 1,
-            Answer::Count(count, _) => self.counts[call as usize][count as usize] += 1,
+            Answer::Count { count, loose, .. } => {
+                self.counts[call as usize][count as usize] += 1;
+                self.loose[call as usize][usize::from(loose)] += 1;
+            }
             Answer::Unknown => {}
         }
         if let Some(last_byte) = last_byte {
@@ -44,8 +53,8 @@ impl Tally {
         }
     }
 
-    /// Prints a line for each call, one for the refusals, one for the counts of each call and one for
-    /// the last bytes of each call with sheets.
+    /// Prints a line for each call, one for the refusals, one for the counts of each call, one for the
+    /// L of each call that cuts and one for the last bytes of each call with sheets.
     pub fn print(&self) {
         for (call, inputs) in CALLS.iter().zip(self.inputs) {
             println!("{}: {inputs} inputs", call.name());
@@ -55,6 +64,10 @@ impl Tally {
         for call in CALLS {
             let times = numbered(0, &self.counts[call as usize]);
             println!("counts of {}:{times}", call.name());
+        }
+        for call in CUTTING_CALLS {
+            let times = numbered(0, &self.loose[call as usize]);
+            println!("L of {}:{times}", call.name());
         }
         for call in SHEET_CALLS {
             let times = numbered(0, &self.last_bytes[call as usize]);
@@ -75,6 +88,9 @@ impl Tally {
         }
         for call in CALLS {
             gaps.extend(missing("count", call, &self.counts[call as usize]));
+        }
+        for call in CUTTING_CALLS {
+            gaps.extend(missing("L", call, &self.loose[call as usize]));
         }
         for call in SHEET_CALLS {
             gaps.extend(missing("last byte", call, &self.last_bytes[call as usize]));

@@ -1,5 +1,5 @@
-//! The cases of document 01, "Trial cuts", with the last byte of document 02, P2, the example of
-//! `cut`, and the orders of document 02, P1, on both implementations.
+//! The cases of document 01, "Trial cuts", with the last byte of document 02, P2, and the L of P3, the
+//! example of `cut`, and the orders of document 02, P1, on both implementations.
 
 use plain::gate::LETTERS_PER_COUNT;
 use plain::matrix::{scale, Matrix, IDENTITY};
@@ -23,6 +23,7 @@ const MINUS_IDENTITY_SHEET: &[u8] = &[1, 2, 3, 4, 5, 6, 1];
 const C_SHEET: &[u8] = &[3, 1, 2, 3, 4, 5, 6, 0];
 const CZ_SHEET: &[u8] = &[2, 129, 6, 5, 132, 131, 0];
 const CHC_SHEET: &[u8] = &[3, 13, 3, 130, 1, 4, 5, 6, 0];
+const MINUS_CHC_SHEET: &[u8] = &[3, 13, 3, 130, 1, 4, 5, 6, 1];
 
 /// Sheets and the refusals that they earn.
 const REFUSED_SHEETS: [(&[u8], u8); 12] = [
@@ -62,23 +63,29 @@ pub fn run(judge: &mut Judge) {
 
 fn accepted_operators(judge: &mut Judge) {
     let identity = file(&IDENTITY, 0);
-    cuts(judge, &identity, &identity, IDENTITY_SHEET);
+    cuts(judge, &identity, &identity, IDENTITY_SHEET, 0);
     cuts(
         judge,
         &file(&scale(&IDENTITY, 2), 2),
         &identity,
         IDENTITY_SHEET,
+        0,
     );
     cuts(
         judge,
         &file(&scale(&IDENTITY, 16384), 28),
         &identity,
         IDENTITY_SHEET,
+        0,
     );
     let minus = file(&scale(&IDENTITY, -1), 0);
-    cuts(judge, &minus, &minus, MINUS_IDENTITY_SHEET);
+    cuts(judge, &minus, &minus, MINUS_IDENTITY_SHEET, 0);
     let example = file(&CUT_EXAMPLE, 2);
-    cuts(judge, &example, &example, CHC_SHEET);
+    cuts(judge, &example, &example, CHC_SHEET, 1);
+    let doubled = file(&scale(&CUT_EXAMPLE, 2), 4);
+    cuts(judge, &doubled, &example, CHC_SHEET, 1);
+    let minus_example = file(&scale(&CUT_EXAMPLE, -1), 2);
+    cuts(judge, &minus_example, &minus_example, MINUS_CHC_SHEET, 1);
 }
 
 fn refused_operators(judge: &mut Judge) {
@@ -94,14 +101,14 @@ fn refused_operators(judge: &mut Judge) {
 }
 
 fn gate_lists(judge: &mut Judge) {
-    list_cuts(judge, b"", IDENTITY_SHEET);
-    list_cuts(judge, b"C", C_SHEET);
-    list_cuts(judge, b"CC", CZ_SHEET);
-    list_cuts(judge, b"Z", CZ_SHEET);
-    list_cuts(judge, b"HH", IDENTITY_SHEET);
-    list_cuts(judge, b"ZZ", MINUS_IDENTITY_SHEET);
-    list_cuts(judge, b"CCCCCCCC", IDENTITY_SHEET);
-    list_cuts(judge, b"CHC", CHC_SHEET);
+    list_cuts(judge, b"", IDENTITY_SHEET, 0);
+    list_cuts(judge, b"C", C_SHEET, 0);
+    list_cuts(judge, b"CC", CZ_SHEET, 0);
+    list_cuts(judge, b"Z", CZ_SHEET, 0);
+    list_cuts(judge, b"HH", IDENTITY_SHEET, 0);
+    list_cuts(judge, b"ZZ", MINUS_IDENTITY_SHEET, 0);
+    list_cuts(judge, b"CCCCCCCC", IDENTITY_SHEET, 0);
+    list_cuts(judge, b"CHC", CHC_SHEET, 1);
 }
 
 fn refused_sheets(judge: &mut Judge) {
@@ -113,26 +120,30 @@ fn refused_sheets(judge: &mut Judge) {
 
 fn orders(judge: &mut Judge) {
     for (t, p, states) in ORDERS {
-        let answer = Answer::Count(states, 0);
+        let answer = Answer::count(states);
         expect(judge, Call::StatesToOrder, &order(t, p), answer, &[]);
     }
 }
 
-/// The list multiplies to the operator of the sheet.
-fn list_cuts(judge: &mut Judge, list: &[u8], sheet: &[u8]) {
+/// The list multiplies to the operator of the sheet and of this L.
+fn list_cuts(judge: &mut Judge, list: &[u8], sheet: &[u8], loose: u8) {
     let (_, file) = judge.run_with(Call::GatesToOperator, list, OPERATOR_BYTES);
     expect(judge, Call::GatesToOperator, list, count_of(sheet), &file);
-    cuts(judge, &file, &file, sheet);
+    cuts(judge, &file, &file, sheet, loose);
 }
 
-/// The operator cuts into the sheet, and sheet and gate list lead back to its least file.
-fn cuts(judge: &mut Judge, file: &[u8], least: &[u8], sheet: &[u8]) {
-    let answer = count_of(sheet);
-    expect(judge, Call::OperatorToSheet, file, answer, sheet);
-    expect(judge, Call::SheetToOperator, sheet, answer, least);
+/// The operator cuts into the sheet with this L, and sheet and gate list lead back to its least file.
+fn cuts(judge: &mut Judge, file: &[u8], least: &[u8], sheet: &[u8], loose: u8) {
+    let cut = Answer::Count {
+        count: count(sheet) as u64,
+        letters: 0,
+        loose,
+    };
+    expect(judge, Call::OperatorToSheet, file, cut, sheet);
+    expect(judge, Call::SheetToOperator, sheet, count_of(sheet), least);
     let letters = LETTERS_PER_COUNT * (count(sheet) + 1);
     let (_, list) = judge.run_with(Call::OperatorToGates, file, letters);
-    expect(judge, Call::GatesToOperator, &list, answer, least);
+    expect(judge, Call::GatesToOperator, &list, count_of(sheet), least);
 }
 
 fn refused_operator(judge: &mut Judge, file: &[u8], number: u8) {
@@ -155,7 +166,7 @@ fn expect(judge: &mut Judge, call: Call, input: &[u8], answer: Answer, output: &
 }
 
 fn count_of(sheet: &[u8]) -> Answer {
-    Answer::Count(count(sheet) as u64, 0)
+    Answer::count(count(sheet) as u64)
 }
 
 fn count(sheet: &[u8]) -> usize {

@@ -21,8 +21,8 @@
 //! file.extend(rows.iter().flatten().flat_map(|entry| entry.to_le_bytes()));
 //!
 //! let mut sheet = [0; dimfrets::MAX_SHEET];
-//! let count = dimfrets::operator_to_sheet(&file, &mut sheet)?;
-//! assert_eq!(count, 2);
+//! let cuts = dimfrets::operator_to_sheet(&file, &mut sheet)?;
+//! assert_eq!((cuts.count, cuts.loose), (2, 1));
 //! assert_eq!(sheet[..9], [3, 13, 3, 130, 1, 4, 5, 6, 0]);
 //!
 //! let mut list = vec![0; dimfrets::GATES_BUFFER];
@@ -50,11 +50,20 @@ pub const MAX_LETTERS: usize = 8192;
 /// The length of a buffer that holds any gate list written.
 pub const GATES_BUFFER: usize = 256 * 29;
 
-/// What a written gate list has: its count, the number of its letters C, and all its letters.
+/// What a written sheet has: its count, and L, the number of cuts whose rows grouped as 2 and 4.
+#[derive(Clone, Copy, Debug, PartialEq, Eq)]
+pub struct Cuts {
+    pub count: u8,
+    pub loose: u8,
+}
+
+/// What a written gate list has: its count, the number of its letters C, all its letters, and L, the
+/// number of cuts whose rows grouped as 2 and 4.
 #[derive(Clone, Copy, Debug, PartialEq, Eq)]
 pub struct Letters {
     pub count: u8,
     pub letters: usize,
+    pub loose: u8,
 }
 
 /// A call from lent bytes to lent bytes.
@@ -68,14 +77,14 @@ extern "C" {
     fn dimfrets_states_to_order(t: u64, p: u64) -> u64;
 }
 
-/// Cuts an operator file into its sheet and answers the count t. The sheet has t + 7 bytes: t
-/// generator numbers, six columns of a Clifford whose column 1 is positive, and a last byte, 0 for
-/// their product and 1 for its negative. Two operators agree up to sign exactly when their sheets
-/// agree before the last byte.
+/// Cuts an operator file into its sheet and answers the count t and L, which is below t, or 0 where t
+/// is. The sheet has t + 7 bytes: t generator numbers, six columns of a Clifford whose column 1 is
+/// positive, and a last byte, 0 for their product and 1 for its negative. Two operators agree up to
+/// sign exactly when their sheets agree before the last byte.
 ///
 /// Refuses with [`Refusal::FileLength`] to [`Refusal::BufferTooShort`], in their order.
-pub fn operator_to_sheet(file: &[u8], out: &mut [u8]) -> Result<u8, Refusal> {
-    count(run(dimfrets_operator_to_sheet, file, out))
+pub fn operator_to_sheet(file: &[u8], out: &mut [u8]) -> Result<Cuts, Refusal> {
+    cuts(run(dimfrets_operator_to_sheet, file, out))
 }
 
 /// Cuts an operator file into a gate list of t letters C; `out` has at least 256 × (t + 1) bytes.
@@ -125,35 +134,49 @@ fn run(call: Call, input: &[u8], out: &mut [u8]) -> u64 {
 struct Parts {
     value: u32,
     length: u16,
+    loose: u8,
 }
 
 /// Takes the word of an answer apart: the refusal's number in bits 0 to 7, the value in 8 to 31,
-/// the length in 32 to 47. With a refusal all other bits are 0; those from 48 on always are.
+/// the length in 32 to 47, L in 48 to 55. With a refusal all other bits are 0; those from 56 on
+/// always are.
 fn parts(word: u64) -> Result<Parts, Refusal> {
     if word as u8 != 0 {
         let number = u8::try_from(word).expect("a refusal has no other part");
         return Err(Refusal::from_number(number).expect("a refusal has a known number"));
     }
-    assert_eq!(word >> 48, 0, "no answer has a part from bit 48 on");
+    assert_eq!(word >> 56, 0, "no answer has a part from bit 56 on");
     Ok(Parts {
         value: word as u32 >> 8,
         length: (word >> 32) as u16,
+        loose: (word >> 48) as u8,
     })
 }
 
-/// The count of an answer without a length.
+/// The count of an answer with no other part.
 fn count(word: u64) -> Result<u8, Refusal> {
-    let parts = parts(word)?;
-    assert_eq!(parts.length, 0, "only a gate list has a length");
-    Ok(byte(parts.value))
+    let cuts = cuts(word)?;
+    assert_eq!(cuts.loose, 0, "only an operator that is cut has an L");
+    Ok(cuts.count)
 }
 
-/// The count of a written gate list, and its length.
+/// The count of a written sheet, and L.
+fn cuts(word: u64) -> Result<Cuts, Refusal> {
+    let parts = parts(word)?;
+    assert_eq!(parts.length, 0, "only a gate list has a length");
+    Ok(Cuts {
+        count: byte(parts.value),
+        loose: parts.loose,
+    })
+}
+
+/// The count of a written gate list, its length, and L.
 fn letters(word: u64) -> Result<Letters, Refusal> {
     let parts = parts(word)?;
     Ok(Letters {
         count: byte(parts.value),
         letters: parts.length.into(),
+        loose: parts.loose,
     })
 }
 
@@ -171,9 +194,22 @@ mod tests {
         let written = Letters {
             count: 255,
             letters: 65535,
+            loose: 0,
         };
         assert_eq!(letters(65535 << 32 | 255 << 8), Ok(written));
+        let loose = Letters {
+            count: 28,
+            letters: 1,
+            loose: 255,
+        };
+        assert_eq!(letters(255 << 48 | 1 << 32 | 28 << 8), Ok(loose));
         assert_eq!(letters(1), Err(Refusal::FileLength));
+        let taken = Cuts {
+            count: 28,
+            loose: 27,
+        };
+        assert_eq!(cuts(27 << 48 | 28 << 8), Ok(taken));
+        assert_eq!(cuts(6), Err(Refusal::BufferTooShort));
         assert_eq!(count(28 << 8), Ok(28));
         assert_eq!(count(14), Err(Refusal::OrderOutOfRange));
         assert_eq!(count(15), Err(Refusal::SheetSign));
@@ -198,21 +234,27 @@ mod tests {
     }
 
     #[test]
-    #[should_panic(expected = "from bit 48 on")]
-    fn no_answer_has_bit_48() {
-        let _ = letters(1 << 48 | 28 << 8);
+    #[should_panic(expected = "from bit 56 on")]
+    fn no_answer_has_bit_56() {
+        let _ = letters(1 << 56 | 28 << 8);
     }
 
     #[test]
-    #[should_panic(expected = "from bit 48 on")]
+    #[should_panic(expected = "from bit 56 on")]
     fn no_answer_has_bit_63() {
         let _ = count(1 << 63 | 28 << 8);
     }
 
     #[test]
+    #[should_panic(expected = "only an operator that is cut")]
+    fn only_an_operator_that_is_cut_has_an_l() {
+        let _ = count(1 << 48 | 28 << 8);
+    }
+
+    #[test]
     #[should_panic(expected = "only a gate list")]
     fn only_a_gate_list_has_a_length() {
-        let _ = count(1 << 32 | 28 << 8);
+        let _ = cuts(1 << 32 | 28 << 8);
     }
 
     #[test]
@@ -234,7 +276,8 @@ mod tests {
         assert_eq!(sheet_to_operator(&sheet, &mut file), Ok(0));
         assert_eq!(file[..3], [0, 255, 255]);
         let mut back = [9; MAX_SHEET];
-        assert_eq!(operator_to_sheet(&file, &mut back), Ok(0));
+        let none = Cuts { count: 0, loose: 0 };
+        assert_eq!(operator_to_sheet(&file, &mut back), Ok(none));
         assert_eq!(back[..8], [1, 2, 3, 4, 5, 6, 1, 9]);
         assert_eq!(
             operator_to_sheet(&file, &mut back[..6]),

@@ -24,20 +24,31 @@ use sheet::Sheet;
 /// The largest spoilage, in thousandths.
 pub const MAX_SPOILAGE: u64 = 1000;
 
-/// Cuts an operator file into its sheet and answers the count.
-pub fn operator_to_sheet(file: &[u8], out: &mut [u8]) -> Result<u8, u8> {
-    let sheet = Sheet::cut(Operator::read(file)?);
-    let out = lend(out, sheet.size())?;
-    sheet.write(out);
-    Ok(sheet.count())
+/// What cutting an operator answers: the count, and L, the number of cuts whose rows grouped as 2
+/// and 4.
+#[derive(Clone, Copy, Debug, PartialEq, Eq)]
+pub struct Cuts {
+    pub count: u8,
+    pub loose: u8,
 }
 
-/// Cuts an operator file into a gate list; answers the count and the number of letters written.
-pub fn operator_to_gates(file: &[u8], out: &mut [u8]) -> Result<(u8, usize), u8> {
-    let sheet = Sheet::cut(Operator::read(file)?);
+/// Cuts an operator file into its sheet; answers the count and L.
+pub fn operator_to_sheet(file: &[u8], out: &mut [u8]) -> Result<Cuts, u8> {
+    let (sheet, loose) = Sheet::cut_with_loose(Operator::read(file)?);
+    let out = lend(out, sheet.size())?;
+    sheet.write(out);
+    let count = sheet.count();
+    Ok(Cuts { count, loose })
+}
+
+/// Cuts an operator file into a gate list; answers the count and L, and the number of letters
+/// written.
+pub fn operator_to_gates(file: &[u8], out: &mut [u8]) -> Result<(Cuts, usize), u8> {
+    let (sheet, loose) = Sheet::cut_with_loose(Operator::read(file)?);
     let out = lend(out, LETTERS_PER_COUNT * (sheet.generators.len() + 1))?;
     let letters = words::write_gates(&sheet, out);
-    Ok((sheet.count(), letters))
+    let count = sheet.count();
+    Ok((Cuts { count, loose }, letters))
 }
 
 /// Multiplies a gate list, writes the operator file and answers the operator's count.

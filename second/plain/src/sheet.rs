@@ -1,5 +1,5 @@
-//! Sheets: the rule of cutting, by document 01, "The rule of cutting", and their bytes, by document
-//! 02, P2.
+//! Sheets: the rule of cutting, by document 01, "The rule of cutting", and document 02, P3, and their
+//! bytes, by document 02, P2.
 
 use crate::generator::{GENERATORS, GENERATOR_COUNT};
 use crate::matrix::{
@@ -29,19 +29,28 @@ pub struct Sheet {
 impl Sheet {
     /// Cuts a proper operator at its least exponent.
     pub fn cut(operator: Operator) -> Sheet {
+        Sheet::cut_with_loose(operator).0
+    }
+
+    /// The same, with the number of cuts whose rows grouped as 2 and 4.
+    pub fn cut_with_loose(operator: Operator) -> (Sheet, u8) {
         let mut generators = Vec::with_capacity(usize::from(operator.exponent));
+        let mut loose = 0;
         let mut rest = operator.matrix;
         for _ in 0..operator.exponent {
-            let taken = first_generator(&rest);
+            let odd = rest.each_ref().map(odd_bits);
+            let taken = first_generator(&odd);
             rest = halve(&multiply(&transpose(&GENERATORS[taken].matrix), &rest));
             generators.push(taken as u8 + 1);
+            loose += u8::from(is_loose(&odd));
         }
         let negative = is_negative(columns(&rest)[0]);
-        Sheet {
+        let sheet = Sheet {
             generators,
             columns: columns(&signed(&rest, negative)),
             negative,
-        }
+        };
+        (sheet, loose)
     }
 
     /// Reads the bytes of a sheet, without asking whether it is the one of its operator.
@@ -105,10 +114,16 @@ impl Sheet {
 }
 
 /// The lowest generator whose every pair has rows with equal odd entries, counted from 0.
-fn first_generator(matrix: &Matrix) -> usize {
-    let odd = matrix.each_ref().map(odd_bits);
-    let fitting = GENERATORS.iter().position(|generator| generator.fits(&odd));
+fn first_generator(odd: &[u8; SIZE]) -> usize {
+    let fitting = GENERATORS.iter().position(|generator| generator.fits(odd));
     fitting.expect("the rows group as 2, 2, 2 or as 2 and 4")
+}
+
+/// Whether rows with equal odd entries group as 2 and 4.
+fn is_loose(odd: &[u8; SIZE]) -> bool {
+    let mut sizes = odd.map(|bits| odd.iter().filter(|&&other| other == bits).count());
+    sizes.sort_unstable();
+    sizes == [2, 2, 4, 4, 4, 4]
 }
 
 /// The matrix, or its negative.

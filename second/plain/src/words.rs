@@ -150,7 +150,8 @@ mod tests {
         let mut file = [0; OPERATOR_BYTES];
         Operator::IDENTITY.write(&mut file);
         let mut out = [7; 300];
-        assert_eq!(crate::operator_to_gates(&file, &mut out), Ok((0, 0)));
+        let none = crate::Cuts { count: 0, loose: 0 };
+        assert_eq!(crate::operator_to_gates(&file, &mut out), Ok((none, 0)));
         assert_eq!(out, [7; 300]);
     }
 }

@@ -13,8 +13,10 @@ fn round_trip(operator: &Operator) -> u8 {
     let mut file = [0; OPERATOR_BYTES];
     operator.write(&mut file);
     let mut sheet = [0; MAX_SHEET];
-    let count = operator_to_sheet(&file, &mut sheet).expect("a proper operator");
+    let cuts = operator_to_sheet(&file, &mut sheet).expect("a proper operator");
+    let count = cuts.count;
     assert_eq!(count, operator.exponent);
+    assert!(cuts.loose < count.max(1));
 
     let mut back = [0; OPERATOR_BYTES];
     let sheet = &sheet[..usize::from(count) + MIN_SHEET];
@@ -22,8 +24,8 @@ fn round_trip(operator: &Operator) -> u8 {
     assert_eq!(back, file);
 
     let mut list = vec![0; 256 * (usize::from(count) + 1)];
-    let (same_count, letters) = operator_to_gates(&file, &mut list).unwrap();
-    assert_eq!(same_count, count);
+    let (same_cuts, letters) = operator_to_gates(&file, &mut list).unwrap();
+    assert_eq!(same_cuts, cuts);
     let mut back = [0; OPERATOR_BYTES];
     assert_eq!(gates_to_operator(&list[..letters], &mut back), Ok(count));
     assert_eq!(back, file);

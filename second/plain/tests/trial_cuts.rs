@@ -1,10 +1,11 @@
-//! The cases of document 01, "Trial cuts", with the last byte of document 02, P2, the example of
-//! `cut`, in both directions, and the orders of document 02, P1.
+//! The cases of document 01, "Trial cuts", with the last byte of document 02, P2, and the L of P3, the
+//! example of `cut`, in both directions, and the orders of document 02, P1.
 
 use plain::matrix::{scale, Matrix, IDENTITY};
 use plain::operator::{Operator, OPERATOR_BYTES};
 use plain::{
     gates_to_operator, operator_to_gates, operator_to_sheet, sheet_to_operator, states_to_order,
+    Cuts,
 };
 
 /// What an untouched byte of an output buffer holds.
@@ -38,11 +39,12 @@ fn file_of_list(list: &[u8]) -> [u8; OPERATOR_BYTES] {
     file
 }
 
-/// The operator has this sheet, the sheet this operator, and its gate list leads back.
-fn assert_cut(file: &[u8], least: &[u8], sheet: &[u8]) {
+/// The operator has this sheet and this L, the sheet this operator, and its gate list leads back.
+fn assert_cut(file: &[u8], least: &[u8], sheet: &[u8], loose: u8) {
     let count = sheet.len() as u8 - 7;
+    let cuts = Cuts { count, loose };
     let mut out = [UNTOUCHED; 40];
-    assert_eq!(operator_to_sheet(file, &mut out), Ok(count));
+    assert_eq!(operator_to_sheet(file, &mut out), Ok(cuts));
     assert_eq!(&out[..sheet.len()], sheet);
     assert!(out[sheet.len()..].iter().all(|&byte| byte == UNTOUCHED));
 
@@ -52,16 +54,16 @@ fn assert_cut(file: &[u8], least: &[u8], sheet: &[u8]) {
     assert_eq!(back[OPERATOR_BYTES], UNTOUCHED);
 
     let mut list = vec![UNTOUCHED; 256 * (usize::from(count) + 1)];
-    let (gates_count, letters) = operator_to_gates(file, &mut list).unwrap();
-    assert_eq!(gates_count, count);
+    let (gates_cuts, letters) = operator_to_gates(file, &mut list).unwrap();
+    assert_eq!(gates_cuts, cuts);
     assert_eq!(file_of_list(&list[..letters]), least);
     let cs_gates = list[..letters].iter().filter(|&&letter| letter == b'C');
     assert_eq!(cs_gates.count(), usize::from(count));
 }
 
-fn assert_list(list: &[u8], sheet: &[u8]) {
+fn assert_list(list: &[u8], sheet: &[u8], loose: u8) {
     let file = file_of_list(list);
-    assert_cut(&file, &file, sheet);
+    assert_cut(&file, &file, sheet, loose);
 }
 
 /// The operator is refused, and no byte is written.
@@ -87,34 +89,40 @@ fn assert_list_refused(list: &[u8], refusal: u8) {
 #[test]
 fn identity_at_every_exponent() {
     let least = file(IDENTITY, 0);
-    assert_cut(&least, &least, IDENTITY_SHEET);
-    assert_cut(&file(scale(&IDENTITY, 2), 2), &least, IDENTITY_SHEET);
-    assert_cut(&file(scale(&IDENTITY, 16384), 28), &least, IDENTITY_SHEET);
+    assert_cut(&least, &least, IDENTITY_SHEET, 0);
+    assert_cut(&file(scale(&IDENTITY, 2), 2), &least, IDENTITY_SHEET, 0);
+    assert_cut(
+        &file(scale(&IDENTITY, 16384), 28),
+        &least,
+        IDENTITY_SHEET,
+        0,
+    );
     assert_refused(&file(scale(&IDENTITY, 16384), 29), 2);
 }
 
 #[test]
 fn gate_lists() {
-    assert_list(b"", IDENTITY_SHEET);
-    assert_list(b"C", C_SHEET);
-    assert_list(b"CC", CZ_SHEET);
-    assert_list(b"Z", CZ_SHEET);
-    assert_list(b"HH", IDENTITY_SHEET);
-    assert_list(b"ZZ", MINUS_IDENTITY_SHEET);
-    assert_list(b"CCCCCCCC", IDENTITY_SHEET);
-    assert_list(b"CHC", CUT_EXAMPLE_SHEET);
+    assert_list(b"", IDENTITY_SHEET, 0);
+    assert_list(b"C", C_SHEET, 0);
+    assert_list(b"CC", CZ_SHEET, 0);
+    assert_list(b"Z", CZ_SHEET, 0);
+    assert_list(b"HH", IDENTITY_SHEET, 0);
+    assert_list(b"ZZ", MINUS_IDENTITY_SHEET, 0);
+    assert_list(b"CCCCCCCC", IDENTITY_SHEET, 0);
+    assert_list(b"CHC", CUT_EXAMPLE_SHEET, 1);
     assert_eq!(file_of_list(b"ZZ"), file(scale(&IDENTITY, -1), 0));
 }
 
 #[test]
 fn the_example_of_cut() {
     let example = file(CUT_EXAMPLE, 2);
-    assert_cut(&example, &example, CUT_EXAMPLE_SHEET);
+    assert_cut(&example, &example, CUT_EXAMPLE_SHEET, 1);
     assert_eq!(file_of_list(b"CHC"), example);
     assert_cut(
         &file(scale(&CUT_EXAMPLE, 4), 6),
         &example,
         CUT_EXAMPLE_SHEET,
+        1,
     );
 }
 
@@ -171,7 +179,7 @@ fn refused_signs() {
 fn refused_gate_lists() {
     assert_list_refused(&[b'?'; 8193], 7);
     assert_list_refused(b"CHx", 8);
-    assert_list(&[b'H'; 8192], IDENTITY_SHEET);
+    assert_list(&[b'H'; 8192], IDENTITY_SHEET, 0);
     let deepest = b"CHCSHshZ".repeat(64);
     let place = (0..=deepest.len())
         .find(|&end| gates_to_operator(&deepest[..end], &mut [0; OPERATOR_BYTES]) == Err(9));
@@ -187,7 +195,8 @@ fn refused_gate_lists() {
 fn short_buffers_come_last() {
     let example = file(CUT_EXAMPLE, 2);
     assert_eq!(operator_to_sheet(&example, &mut [0; 8]), Err(6));
-    assert_eq!(operator_to_sheet(&example, &mut [0; 9]), Ok(2));
+    let cuts = Cuts { count: 2, loose: 1 };
+    assert_eq!(operator_to_sheet(&example, &mut [0; 9]), Ok(cuts));
     assert_eq!(operator_to_gates(&example, &mut [0; 767]), Err(6));
     assert!(operator_to_gates(&example, &mut [0; 768]).is_ok());
     assert_eq!(gates_to_operator(b"CHC", &mut [0; 72]), Err(6));

@@ -40,6 +40,40 @@ pub fn operator(random: &mut Random, count: u8) -> Operator {
     operator.times(&clifford(random))
 }
 
+/// An operator of the given count whose L, the number of cuts that group as 2 and 4, is drawn first
+/// from all below the count. The generators go to the left, where cutting begins, and each is to
+/// raise L or to leave it; where none of them does as drawn, L comes out otherwise.
+pub fn operator_by_loose(random: &mut Random, count: u8) -> Operator {
+    let wanted = random.below(usize::from(count).max(1)) as u8;
+    let mut operator = clifford(random);
+    while operator.exponent < count {
+        let so_far = loose(&operator);
+        let missing = usize::from(wanted.saturating_sub(so_far));
+        let left = usize::from(count - operator.exponent);
+        let next = so_far + u8::from(random.below(left) < missing);
+        let longer = raised(random, &operator);
+        let as_drawn = longer.iter().find(|longer| loose(longer) == next);
+        operator = *as_drawn.unwrap_or(&longer[0]);
+    }
+    operator
+}
+
+/// The products with a generator on the left that raises the exponent, in a random order.
+fn raised(random: &mut Random, operator: &Operator) -> Vec<Operator> {
+    let products = GENERATORS.iter().map(|generator| generator.operator());
+    let products = products.map(|generator| generator.times(operator).reduced());
+    let mut raised: Vec<_> = products
+        .filter(|longer| longer.exponent > operator.exponent)
+        .collect();
+    random.shuffle(&mut raised);
+    raised
+}
+
+/// The number of cuts of an operator that group as 2 and 4.
+fn loose(operator: &Operator) -> u8 {
+    Sheet::cut_with_loose(*operator).1
+}
+
 /// The same operator with an exponent from its own up to the largest.
 pub fn inflated(random: &mut Random, operator: &Operator) -> Operator {
     let room = usize::from((MAX_EXPONENT - operator.exponent) / 2);
@@ -80,6 +114,20 @@ mod tests {
             assert_eq!(Operator::read(&file(&inflated)), Ok(operator));
             let sheet = sheet(&mut random, count);
             assert_eq!(sheet.len(), usize::from(count) + MIN_SHEET);
+        }
+    }
+
+    #[test]
+    fn every_l_below_the_count_comes_up() {
+        let mut random = Random::new(3);
+        for count in [1, 2, 3, 7, MAX_EXPONENT] {
+            let mut met = vec![false; usize::from(count)];
+            for _ in 0..40 * met.len() {
+                let operator = operator_by_loose(&mut random, count);
+                assert_eq!(operator.exponent, count);
+                met[usize::from(loose(&operator))] = true;
+            }
+            assert!(met.iter().all(|&met| met), "count {count}: {met:?}");
         }
     }
 
