@@ -8,9 +8,10 @@ use Rattle.matrix.specs.Matrix.{entry}
 use Rattle.matrix.specs.Operator.{operator, Orthogonal, Reduced}
 use Rattle.reduction.specs.declared.Normal.{Normal}
 use Rattle.reduction.specs.declared.Step.{Step}
-use Rattle.reduction.specs.Reduction.{chosen, step, generators, remainder, looseCut, looseCuts, count, taken, remaining, loose}
+use Rattle.reduction.specs.Reduction as reduction
+use Rattle.reduction.specs.Reduction.{chosen, step, generators, remainder, looseCut, looseCuts, taken, remaining}
 
--- what a cut takes: a reduced orthogonal operator of exponent 1 to 60
+-- what a cut takes: a reduced orthogonal operator of exponent 1 to 60, which is one more than that of the rest
 pub record Cuttable (m : List ℤ) : Type 0 where
   pub rest : ℕ
   pub small : rest < 60
@@ -36,7 +37,7 @@ pub record Whole (k : ℕ) (m : List ℤ) (r : Normal) : Type 0 where
 
 -- of any pair
 pub record WholeOf (k : ℕ) (m : List ℤ) (r : Normal) : Type 0 where
-  pub count : r .count ≡ Rattle.reduction.specs.Reduction.count k m
-  pub loose : r .loose ≡ Rattle.reduction.specs.Reduction.loose k m
-  pub numbers : r .numbers ≡ numbersOf (Rattle.reduction.specs.Reduction.count k m) (taken k m)
+  pub count : r .count ≡ reduction.count k m
+  pub loose : r .loose ≡ reduction.loose k m
+  pub numbers : r .numbers ≡ numbersOf (reduction.count k m) (taken k m)
   pub matrix : r .matrix ≡ remaining k m

@@ -27,7 +27,7 @@ pub struct Normal {
 }
 
 // Generator g's inverse on the left.
-pub fn cut_by(m: [i64; 36], g: usize) -> [i64; 36]
+fn cut_by(m: [i64; 36], g: usize) -> [i64; 36]
     requires { ⌜ (1 ≤ g) × (g ≤ 15) × Bounded (2 ^ 30) (entry m) ⌝ }
     ensures { λ r. ⌜ r ≡ listed (cut g (entry m)) ⌝ }
 {
@@ -39,8 +39,8 @@ pub fn cut_by(m: [i64; 36], g: usize) -> [i64; 36]
     out
 }
 
-// One cut. That some row has no odd entry decides whether it is loose.
-// Wrong, and refused: a flag that is always false; a flag that the first row alone decides.
+// One cut: the inverse of the lowest-numbered generator that fits, on the left. Its rows grouped as 2 and 4 if one of them has no odd entry.
+// Wrong, and refused: another generator than the one chosen; a flag that is always false.
 pub fn cut_once(m: [i64; 36]) -> Step
     requires { ⌜ Cuttable m ⌝ }
     ensures { λ r. ⌜ StepOf m r ⌝ }

@@ -82,6 +82,7 @@ pub fn first_fit(masks: [u8; 6]) -> usize
 }
 
 // Whether some row has no odd entry.
+// Wrong, and refused: the first row alone; a row of four odd entries for one of none.
 pub fn has_even_row(masks: [u8; 6]) -> bool
     ensures { λ r. ⌜ r ≡ hasEvenRow (maskAt masks) ⌝ }
 {
