@@ -4,6 +4,7 @@ use mathlib.Core.Bool.{Bool, cond, _&&_}
 use Prim.Native.Nat.{ℕ}
 use lib.Dec.{eqb}
 use Rattle.matrix.specs.Range.{total}
+use Rattle.residue.specs.Generator.{fits}
 
 -- how many rows are in row r's group
 unfoldable pub groupSize : (ℕ → ℕ) → ℕ → ℕ
@@ -16,3 +17,7 @@ inGroupsOf n f = total (λ r. cond (eqb (groupSize f r) n) 1 0) 0 6
 -- "its rows grouped as 2 and 4" (document 02, P3): two rows are in a group of two, four in a group of four
 unfoldable pub isLoose : (ℕ → ℕ) → Bool
 isLoose f = eqb (inGroupsOf 2 f) 2 && eqb (inGroupsOf 4 f) 4
+
+-- how many of the fifteen generators have every pair inside a group
+unfoldable pub fitting : (ℕ → ℕ) → ℕ
+fitting f = total (λ g. cond (fits f g) 1 0) 1 15

@@ -7,7 +7,7 @@ use mathlib.Core.List.{List, [], _∷_, _++_}
 use Prim.Native.Nat.{ℕ, zero, suc, _+_, _%_, _<_}
 use lib.ListN.{getD}
 use lib.Dec.{T, eqb, ltb, lit<}
-use Rattle.matrix.specs.Range.{everyFrom, every, firstFrom, some}
+use Rattle.matrix.specs.Range.{everyFrom, every, firstFrom, some, total}
 use Rattle.matrix.specs.Laws.Range.{every-sound, every-complete}
 use Rattle.residue.specs.Generator.{table, place, low, high}
 use Rattle.matrix.specs.Laws.Test.{both, left, right, or-elim, imp, imp-sound, T-true, true-T}
@@ -121,9 +121,13 @@ grouped m = eqb (rowsInGroupsOf 2 m m) 6 || twoAndFour m
 abbrev pub hasZero : List Row → Bool
 hasZero m = some 6 (λ r. eqb (weight (nth m r)) 0)
 
--- a generator fits, the rows group, and as 2 and 4 exactly if some row has no bit
+-- how many generators pair rows that are equal
+abbrev pub agreeing : List Row → ℕ
+agreeing m = total (λ g. bit (agrees m g)) 1 15
+
+-- the rows group, as 2 and 4 exactly if some row has no bit, and then three generators fit, and else one
 unfoldable pub paired : List Row → Bool
-paired m = ltb (firstFrom (agrees m) 1 15) 16 && (grouped m && Bool·beq (twoAndFour m) (hasZero m))
+paired m = grouped m && (Bool·beq (twoAndFour m) (hasZero m) && eqb (agreeing m) (cond (twoAndFour m) 3 1))
 
 -- ---- the enumeration
 
@@ -268,7 +272,7 @@ unfoldable shape4 : Shape
 shape4 = record { one = noneOrFour; two = meetEvenly; rows = select noneOrFour; good = λ m. imp (notZero m) (paired m) }
 
 run4 : T (allIn (from1 shape4) (shape4 .rows))
-unfolding shape4 paired grouped agrees place table everyFrom firstFrom pass2 pass3 pass4 pass5 pass6 from5 from4 from3 from2 from1
+unfolding shape4 paired grouped agrees place table everyFrom firstFrom total pass2 pass3 pass4 pass5 pass6 from5 from4 from3 from2 from1
 run4 = tt
 
 rows4 : (r : Row) → T (noneOrFour r) → T (member r (select noneOrFour))
@@ -302,7 +306,7 @@ unfoldable shape2 : Shape
 shape2 = record { one = two; two = meetInTwoOrNone; rows = select two; good = paired }
 
 run2 : T (allIn (from1 shape2) (shape2 .rows))
-unfolding shape2 paired grouped agrees place table everyFrom firstFrom pass2 pass3 pass4 pass5 pass6 from5 from4 from3 from2 from1
+unfolding shape2 paired grouped agrees place table everyFrom firstFrom total pass2 pass3 pass4 pass5 pass6 from5 from4 from3 from2 from1
 run2 = tt
 
 rows2 : (r : Row) → T (two r) → T (member r (select two))

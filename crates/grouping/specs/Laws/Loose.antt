@@ -14,7 +14,7 @@ use Rattle.matrix.specs.Laws.Range.{some-sound, some-complete, total-cong}
 use Rattle.matrix.specs.Laws.Array.{mask-ones}
 use Rattle.residue.specs.Masks.{hasEvenRow}
 use Rattle.residue.specs.Laws.Generator.{Alike}
-use Rattle.grouping.specs.Grouping.{groupSize, inGroupsOf, isLoose}
+use Rattle.grouping.specs.Grouping.{groupSize, inGroupsOf, isLoose, fitting}
 use Rattle.grouping.specs.Laws.Residue.{row-weight-two, grouped-rows}
 
 -- it depends on which rows group together
@@ -39,6 +39,10 @@ loose-even-row k M o r =
       λ t. let (i, h, w) = some-sound 6 (λ i. eqb (ones (rowMask M i)) 0) (sym e ∙ t) in (i, h, sym (mask-ones M i) ∙ eqb-true _ _ w),
       λ (i, h, w). e ∙ some-complete 6 (λ i. eqb (ones (rowMask M i)) 0) i h (eq-eqb _ _ (mask-ones M i ∙ w)),
     )
+
+-- then three generators fit; a cut of which this does not hold is forced, for one alone fits
+pub choices : (k : ℕ) (M : Matrix) → Orthogonal (operator (suc k) M) → Reduced (operator (suc k) M) → fitting (rowMask M) ≡ cond (isLoose (rowMask M)) 3 1
+choices k M o r = grouped-rows k M o r .choices
 
 -- for k = 1 no row has none: the last cut is forced
 pub forced-at-one : (M : Matrix) → Orthogonal (operator 1 M) → isLoose (rowMask M) ≡ false

@@ -2,7 +2,7 @@
 -- have, how two rows meet, how the rows group, and that some generator fits. For every exponent.
 use mathlib.Core.Path.{_≡_, refl, sym, ap, ap₂, _∙_, subst}
 use mathlib.Core.Logic.{_⊎_, inl, inr}
-use mathlib.Core.Bool.{Bool, true, false, not, _&&_, _||_}
+use mathlib.Core.Bool.{Bool, true, false, not, cond, _&&_, _||_, Bool·beq}
 use mathlib.Core.List.{List, [], _∷_}
 use Prim.Native.Nat.{ℕ, zero, suc, _+_, _*_, _%_, _^_, _<_, _≤_}
 use native.Mathlib.Nat.{zero-add}
@@ -11,20 +11,20 @@ use lib.Count.{ones}
 use lib.Dec.{T, eqb, ltb, eqb→eq, ltb→lt}
 use lib.IntN.{ℤ, pos, natAbs, _+ℤ_, _*ℤ_}
 use borrow.Author.Tests.{eq-eqb, ne-eqb, eqb-true}
-use Rattle.matrix.specs.Range.{sum, bits, total, firstFrom}
+use Rattle.matrix.specs.Range.{sum, everyFrom, bits, total, firstFrom}
 use Rattle.matrix.specs.Integer.{parity}
 use Rattle.matrix.specs.Matrix.{Matrix, transpose}
 use Rattle.matrix.specs.Operator.{operator, Orthogonal, AllEven, Reduced}
 use Rattle.matrix.specs.Array.{rowMask, rowWeight}
 use Rattle.matrix.specs.Laws.Parity.{parity-add, parity-mul, parity-lt, parity-even}
-use Rattle.matrix.specs.Laws.Range.{First, first-found, first-in, every-sound, every-complete}
+use Rattle.matrix.specs.Laws.Range.{First, first-found, total-cong, total-some}
 use Rattle.matrix.specs.Laws.Array.{mask-ones, equal-masks, norm-total, row-norm, row-other, columns-of}
 use Rattle.residue.specs.Generator.{low, high, fits, firstFit}
 use Rattle.residue.specs.Masks.{hasEvenRow}
-use Rattle.grouping.specs.Grouping.{groupSize, inGroupsOf, isLoose}
+use Rattle.grouping.specs.Grouping.{groupSize, inGroupsOf, isLoose, fitting}
 use Rattle.matrix.specs.Laws.Test.{left, right, or-elim, T-true, true-T}
 use Rattle.residue.specs.Laws.Generator.{low-six, high-six}
-use Rattle.grouping.specs.Laws.Grouping.{Row, row, bit, weight, meet, sameRow, beq-sound, same-row-sound, same-row-refl, column, nth, agrees, size, rowsInGroupsOf, twoAndFour, grouped, hasZero, paired, sixOf, columnOf, noneOrFour, notZero, two, meetInTwoOrNone, grouping-four, grouping-two}
+use Rattle.grouping.specs.Laws.Grouping.{Row, row, bit, weight, meet, sameRow, beq-sound, same-row-sound, same-row-refl, column, nth, agrees, size, rowsInGroupsOf, twoAndFour, grouped, hasZero, agreeing, paired, sixOf, columnOf, noneOrFour, notZero, two, meetInTwoOrNone, grouping-four, grouping-two}
 
 -- ---- vectors of six numbers
 
@@ -221,13 +221,16 @@ same-tests M i j = go (sameRow (oddRow M i) (oddRow M j)) refl
     go false e = sym (ne-eqb _ _ (λ m. subst T (sym (T-true _ (subst (λ r. T (sameRow (oddRow M i) r)) (rows-equal M i j m) (same-row-refl (oddRow M i)))) ∙ e) tt))
 
 -- so is what the rows of bits say of a generator and of the groups
-fits-agrees : (M : Matrix) (g : ℕ) → 1 ≤ g → g ≤ 15 → agrees (sixOf (oddRow M)) g ≡ true → fits (rowMask M) g ≡ true
-unfolding agrees fits
-fits-agrees M g l u e =
-    every-complete 3 (λ p. eqb (rowMask M (low g p)) (rowMask M (high g p)))
-    (λ p h. sym (same-tests M (low g p) (high g p))
-    ∙ ap₂ sameRow (sym (nth-six (oddRow M) (low g p) (low-six g l u p h))) (sym (nth-six (oddRow M) (high g p) (high-six g l u p h)))
-    ∙ every-sound 3 (λ p. sameRow (nth (sixOf (oddRow M)) (low g p)) (nth (sixOf (oddRow M)) (high g p))) e p h)
+fits-is : (M : Matrix) (g : ℕ) → 1 ≤ g → g ≤ 15 → agrees (sixOf (oddRow M)) g ≡ fits (rowMask M) g
+unfolding agrees fits everyFrom
+fits-is M g l u = rw (at 0 (omega arith), at 1 (omega arith), at 2 (omega arith))
+  where
+    at : (p : ℕ) → p < 3 → sameRow (nth (sixOf (oddRow M)) (low g p)) (nth (sixOf (oddRow M)) (high g p)) ≡ eqb (rowMask M (low g p)) (rowMask M (high g p))
+    at p h = ap₂ sameRow (nth-six (oddRow M) (low g p) (low-six g l u p h)) (nth-six (oddRow M) (high g p) (high-six g l u p h)) ∙ same-tests M (low g p) (high g p)
+
+fitting-is : (M : Matrix) → agreeing (sixOf (oddRow M)) ≡ fitting (rowMask M)
+unfolding fitting
+fitting-is M = total-cong 1 15 (λ g l u. ap bit (fits-is M g l (omega arith)))
 
 size-is : (M : Matrix) (r : ℕ) → size (oddRow M r) (sixOf (oddRow M)) ≡ groupSize (rowMask M) r
 unfolding groupSize total
@@ -257,22 +260,32 @@ pub record Grouped (f : ℕ → ℕ) : Type 0 where
   pub groups : (inGroupsOf 2 f ≡ 6) ⊎ ((inGroupsOf 2 f ≡ 2) × (inGroupsOf 4 f ≡ 4))
   -- as 2 and 4 exactly if some row has no odd entry
   pub loose : isLoose f ≡ hasEvenRow f
+  -- then three generators fit, and else one
+  pub choices : fitting f ≡ cond (isLoose f) 3 1
   -- "the lowest-numbered generator whose every pair lies inside a group"
   pub fit : First (fits f) 1 16 (firstFit f)
+
+-- three or one is some
+fits-some : (f : ℕ → ℕ) (t : Bool) → fitting f ≡ cond t 3 1 → (g : ℕ) × (1 ≤ g) × (g < 1 + 15) × (fits f g ≡ true)
+unfolding fitting
+fits-some f true e = total-some (fits f) 1 15 (omega arith)
+fits-some f false e = total-some (fits f) 1 15 (omega arith)
 
 grouped-of : (M : Matrix) → T (paired (sixOf (oddRow M))) → Grouped (rowMask M)
 unfolding paired grouped firstFit isLoose
 grouped-of M t =
     let m = sixOf (oddRow M) in
-    let found = first-in (agrees m) 1 15 (ltb→lt _ 16 (left (ltb (firstFrom (agrees m) 1 15) 16) _ t)) in
-    let upper : firstFrom (agrees m) 1 15 < 16 = found .below in
-    let groups = right (ltb (firstFrom (agrees m) 1 15) 16) _ t in
+    let free = right (grouped m) _ t in
+    let is-loose : twoAndFour m ≡ isLoose (rowMask M) = rw (in-groups-is M 2, in-groups-is M 4) in
+    let count = sym (fitting-is M) ∙ eqb→eq _ _ (right (Bool·beq (twoAndFour m) (hasZero m)) _ free) in
+    let (g, from, below, holds) = fits-some (rowMask M) (twoAndFour m) count in
     record {
-      groups = or-elim (eqb (rowsInGroupsOf 2 m m) 6) _ _ (left (grouped m) _ groups)
+      groups = or-elim (eqb (rowsInGroupsOf 2 m m) 6) _ _ (left (grouped m) _ t)
           (λ a. inl (sym (in-groups-is M 2) ∙ eqb→eq _ _ a))
           (λ a. inr (sym (in-groups-is M 2) ∙ eqb→eq _ _ (left (eqb (rowsInGroupsOf 2 m m) 2) _ a), sym (in-groups-is M 4) ∙ eqb→eq _ _ (right (eqb (rowsInGroupsOf 2 m m) 2) _ a)));
-      loose = rw (sym (in-groups-is M 2), sym (in-groups-is M 4)) (beq-sound (twoAndFour m) (hasZero m) (right (grouped m) _ groups) ∙ zero-row-is M);
-      fit = first-found (fits (rowMask M)) 1 15 (firstFrom (agrees m) 1 15) (fits-agrees M _ (found .from) (omega arith) (found .holds)) (found .from) (omega arith);
+      loose = sym is-loose ∙ beq-sound (twoAndFour m) (hasZero m) (left (Bool·beq (twoAndFour m) (hasZero m)) _ free) ∙ zero-row-is M;
+      choices = count ∙ ap (λ t. cond t 3 1) is-loose;
+      fit = first-found (fits (rowMask M)) 1 15 g holds from below;
     }
 
 column-norm : (k : ℕ) (M : Matrix) → Orthogonal (operator k M) → (c : ℕ) → c < 6 → sum 6 (λ r. M r c *ℤ M r c) ≡ pos (2 ^ k)

@@ -168,6 +168,17 @@ unfolding total
 total-cong a zero h = refl
 total-cong a (suc k) h = ap₂ _+_ (h a (omega arith) (omega arith)) (total-cong (suc a) k (λ i l u. h i (omega arith) (omega arith)))
 
+-- where a test is counted at least once, it holds at some index
+pub total-some : (f : ℕ → Bool) (a k : ℕ) → 1 ≤ total (λ i. cond (f i) 1 0) a k → (i : ℕ) × (a ≤ i) × (i < a + k) × (f i ≡ true)
+unfolding total
+total-some f a zero h = absurd (omega arith)
+total-some f a (suc k) h = go (f a) refl h (total-some f (suc a) k)
+  where
+    go : (t : Bool) → f a ≡ t → 1 ≤ cond t 1 0 + total (λ i. cond (f i) 1 0) (suc a) k
+        → (1 ≤ total (λ i. cond (f i) 1 0) (suc a) k → (i : ℕ) × (suc a ≤ i) × (i < suc a + k) × (f i ≡ true)) → (i : ℕ) × (a ≤ i) × (i < a + suc k) × (f i ≡ true)
+    go true e h rest = (a, omega arith, omega arith, e)
+    go false e h rest = let (i, l, u, p) = rest (omega arith) in (i, omega arith, omega arith, p)
+
 module _ (f : ℕ → ℕ) (one-bit : (c : ℕ) → f c < 2) where
   pub bits-lt : (c k : ℕ) → bits f c k < 2 ^ k
   unfolding bits
