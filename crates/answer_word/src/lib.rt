@@ -43,7 +43,7 @@ pub fn encode_answer(answer: Answer) -> u64
 }
 
 // The word of the answer of the call for a sheet.
-// Wrong, and refused: L as a length.
+// Wrong, and refused: L in the bits of the phase; L beside a refusal.
 pub fn encode_cuts(answer: Cuts) -> u64
     requires { ⌜ answer ≢ Cuts.Refused 0 ⌝ }
     ensures { λ r. ⌜ WordOf (cutsParts answer) r ⌝ }
@@ -55,7 +55,7 @@ pub fn encode_cuts(answer: Cuts) -> u64
 }
 
 // The word of the answer of the call for a gate list.
-// Wrong, and refused: the count as the number of letters; a refusal beside a count; the count for L.
+// Wrong, and refused: the count as the number of letters; a refusal beside a count; L left out.
 pub fn encode_listed(answer: Listed) -> u64
     requires { ⌜ (answer ≢ Listed.Refused 0) × (lettersOf answer < 2 ^ 16) ⌝ }
     ensures { λ r. ⌜ WordOf (listedParts answer) r ⌝ }

@@ -29,10 +29,11 @@ unfoldable pub remainder : ℕ → List ℤ → List ℤ
 remainder zero m = m
 remainder (suc k) m = remainder k (step m)
 
--- "whether its rows grouped as 2 and 4" (document 02, P3): of one cut, and how many cuts do
+-- a loose cut: "whether its rows grouped as 2 and 4" (document 02, P3)
 abbrev pub looseCut : List ℤ → Bool
 looseCut m = isLoose (rowMask (entry m))
 
+-- how many of the cuts are loose, at least exponent k
 unfoldable pub looseCuts : ℕ → List ℤ → ℕ
 looseCuts zero m = 0
 looseCuts (suc k) m = cond (looseCut m) 1 0 + looseCuts k (step m)

@@ -1,12 +1,12 @@
--- Six rows of six bits that weigh and meet as those of an orthogonal operator do group as 2, 2, 2 or as 2 and 4, and some generator's pairs
--- lie inside the groups (source document 001, section 4). A finite fact, by an enumeration that goes through the rows one after the other and
--- leaves out what the rows and columns so far rule out.
+-- Six rows of six bits that weigh and meet as those of an orthogonal operator do group as 2, 2, 2 or as 2 and 4, and one generator's pairs, or
+-- those of three, lie inside the groups (source document 001, section 4). A finite fact, by an enumeration that goes through the rows one after
+-- the other and leaves out what the rows and columns so far rule out.
 use mathlib.Core.Path.{_≡_, refl, subst, sym}
 use mathlib.Core.Bool.{Bool, true, false, not, cond, _&&_, _||_, Bool·beq}
 use mathlib.Core.List.{List, [], _∷_, _++_}
 use Prim.Native.Nat.{ℕ, zero, suc, _+_, _%_, _<_}
 use lib.ListN.{getD}
-use lib.Dec.{T, eqb, ltb, lit<}
+use lib.Dec.{T, eqb, lit<}
 use Rattle.matrix.specs.Range.{everyFrom, every, firstFrom, some, total}
 use Rattle.matrix.specs.Laws.Range.{every-sound, every-complete}
 use Rattle.residue.specs.Generator.{table, place, low, high}

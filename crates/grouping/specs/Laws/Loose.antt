@@ -1,4 +1,5 @@
--- Rows that group as 2 and 4 (document 02, P3): some row has no odd entry, and none has at k = 1. For every exponent.
+-- Rows that group as 2 and 4 (document 02, P3): those of which some row has no odd entry. Three generators fit them; at k = 1 there are none. For
+-- every exponent.
 use mathlib.Core.Path.{_≡_, refl, sym, ap, _∙_}
 use mathlib.Core.Logic.{_↔_}
 use mathlib.Core.Bool.{Bool, true, false, cond}
@@ -40,7 +41,7 @@ loose-even-row k M o r =
       λ (i, h, w). e ∙ some-complete 6 (λ i. eqb (ones (rowMask M i)) 0) i h (eq-eqb _ _ (mask-ones M i ∙ w)),
     )
 
--- then three generators fit; a cut of which this does not hold is forced, for one alone fits
+-- then three generators fit; any other cut is forced, for one alone fits it
 pub choices : (k : ℕ) (M : Matrix) → Orthogonal (operator (suc k) M) → Reduced (operator (suc k) M) → fitting (rowMask M) ≡ cond (isLoose (rowMask M)) 3 1
 choices k M o r = grouped-rows k M o r .choices
 

@@ -8,7 +8,7 @@ use Prim.Native.Nat.{ℕ, zero, suc, _+_, _*_, _%_, _^_, _<_, _≤_}
 use native.Mathlib.Nat.{zero-add}
 use native.Mathlib.Omega.{arith}
 use lib.Count.{ones}
-use lib.Dec.{T, eqb, ltb, eqb→eq, ltb→lt}
+use lib.Dec.{T, eqb, eqb→eq}
 use lib.IntN.{ℤ, pos, natAbs, _+ℤ_, _*ℤ_}
 use borrow.Author.Tests.{eq-eqb, ne-eqb, eqb-true}
 use Rattle.matrix.specs.Range.{sum, everyFrom, bits, total, firstFrom}

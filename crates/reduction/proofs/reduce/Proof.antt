@@ -12,7 +12,7 @@ use mir.Val.{boolByte}
 use Rattle.reduction.specs.Reduction.{chosen, step, generators, remainder, looseCut, looseCuts}
 use Rattle.reduction.specs.Result.{numbersOf}
 use Rattle.reduction.specs.Laws.NormalForm.{remainder-next, generators-next, length-generators, under-way}
-use Rattle.reduction.specs.Laws.Loose.{loose-next, loose-at-most}
+use Rattle.reduction.specs.Laws.Loose.{at-most-one, loose-next, loose-at-most}
 use Rattle.reduction.proofs.reduce.Statement.{statement}
 use Rattle.reduction.proofs.reduce.Tie as tie
 
@@ -26,10 +26,6 @@ numbers-more n x gs l h =
 byte-is : (t : Bool) → boolByte t ≡ cond t 1 0
 byte-is true = refl
 byte-is false = refl
-
-byte-le : (t : Bool) → boolByte t ≤ 1
-byte-le true = omega arith
-byte-le false = omega arith
 
 abbrev Inv-loop : tie.InvT-loop
 Inv-loop k numbers₀ loose₀ m n₀ numbers loose matrix n = (n ≤ k) × (matrix ≡ remainder n m) × (numbers ≡ numbersOf n (generators n m)) × (loose ≡ looseCuts n m)
@@ -62,7 +58,9 @@ add-loose : tie.Need-add-loose Inv-loop μ-loop
 add-loose c =
     let l = c .before .before .before .before in
     let h = loose-at-most (l .loop .n) (l .before .args .m) in
-    let one = byte-le (c .before .before .cut-once .result .loose) in
+    let t = c .before .before .cut-once .result .loose in
+    let e = byte-is t in
+    let one = at-most-one t in
     omega arith
 
 add-n : tie.Need-add-n Inv-loop μ-loop

@@ -18,8 +18,8 @@ use Rattle.reduction.specs.Laws.NormalForm.{step-orthogonal, step-reduce
 use Rattle.reduction.specs.Laws.Right.{timesRight, right-step, least-times}
 use Rattle.reduction.specs.Laws.Negative.{negativeOf, negative-right, minusOne, minus-one-orthogonal}
 
--- a cut is one or none
-at-most-one : (t : Bool) → cond t 1 0 ≤ 1
+-- a cut counts once at most
+pub at-most-one : (t : Bool) → cond t 1 0 ≤ 1
 at-most-one true = omega arith
 at-most-one false = omega arith
 
