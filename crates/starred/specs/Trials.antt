@@ -1,5 +1,5 @@
--- Document 01's trial cuts that are marked to be proved of the definitions, with the last byte of document 02, P2, and the L of P3, that
--- requests' own and the orders of P1: a table of cases, and the test that each passes.
+-- Document 01's trial cuts that are marked to be proved of the definitions, with the last byte of document 02, P2, and the L of P3; these
+-- requests' own cases, and the orders of P1: a table of cases, and the test that each passes.
 use mathlib.Core.Bool.{Bool, true, false, _&&_}
 use mathlib.Core.List.{List, [], _∷_}
 use Prim.Native.Nat.{ℕ}
@@ -53,9 +53,9 @@ abbrev pub allPass : List Trial → Bool
 allPass [] = true
 allPass (t ∷ ts) = passes t && allPass ts
 
--- the identity; twice the identity, k 2; twice the product of `CHC`, k 4; two sheets that earn 13; a last byte above 1, also of a sheet that would earn 13; a negative column 1;
--- columns that are no Clifford; the identity with −1 in row 1; `C`; `CC` and `Z`; `HH`, which is the identity; `ZZ`, which is its negative; eight
--- `C`, which are the identity, count 0; `CHC`; the orders
+-- the identity; twice the identity, k 2; twice the product of `CHC`, k 4; two sheets that earn 13; a last byte above 1, also of a sheet that
+-- would earn 13; a negative column 1; columns that are no Clifford; the identity with −1 in row 1; `C`; `CC` and `Z`; `HH`, which is the
+-- identity; `ZZ`, which is its negative; eight `C`, which are the identity, count 0; `CHC`; the orders
 unfoldable pub trials : List Trial
 trials =
     cuts 0 δ (1 ∷ 2 ∷ 3 ∷ 4 ∷ 5 ∷ 6 ∷ 0 ∷ []) 0 ∷
