@@ -50,6 +50,18 @@ impl Answer {
             loose: 0,
         }
     }
+
+    /// The answer as far as the papers settle it.
+    pub fn without_letters(self) -> Answer {
+        match self {
+            Answer::Count { count, loose, .. } => Answer::Count {
+                count,
+                letters: 0,
+                loose,
+            },
+            other => other,
+        }
+    }
 }
 
 impl Call {

@@ -90,7 +90,7 @@ impl Case<'_> {
         let (tested, tested_out) = &self.tested;
         let (plain, plain_out) = &self.plain;
         self.demand(
-            without_letters(tested) == without_letters(plain),
+            tested.without_letters() == plain.without_letters(),
             "the answers differ",
         );
         let fits = self.written(*tested) <= tested_out.middle().len();
@@ -175,18 +175,6 @@ impl Case<'_> {
             );
         }
         std::process::exit(1);
-    }
-}
-
-/// The answer as far as the papers settle it.
-fn without_letters(answer: &Answer) -> Answer {
-    match *answer {
-        Answer::Count { count, loose, .. } => Answer::Count {
-            count,
-            letters: 0,
-            loose,
-        },
-        other => other,
     }
 }
 

@@ -1,6 +1,8 @@
 //! The cases of document 01, "Trial cuts", with the last byte of document 02, P2, and the L of P3, the
 //! example of `cut`, and the orders of document 02, P1, on both implementations.
 
+use std::fmt::Debug;
+
 use plain::gate::LETTERS_PER_COUNT;
 use plain::matrix::{scale, Matrix, IDENTITY};
 use plain::operator::{Operator, OPERATOR_BYTES};
@@ -142,7 +144,8 @@ fn cuts(judge: &mut Judge, file: &[u8], least: &[u8], sheet: &[u8], loose: u8) {
     expect(judge, Call::OperatorToSheet, file, cut, sheet);
     expect(judge, Call::SheetToOperator, sheet, count_of(sheet), least);
     let letters = LETTERS_PER_COUNT * (count(sheet) + 1);
-    let (_, list) = judge.run_with(Call::OperatorToGates, file, letters);
+    let (listed, list) = judge.run_with(Call::OperatorToGates, file, letters);
+    same(Call::OperatorToGates, file, &listed.without_letters(), &cut);
     expect(judge, Call::GatesToOperator, &list, count_of(sheet), least);
 }
 
@@ -157,11 +160,16 @@ fn refused_operator(judge: &mut Judge, file: &[u8], number: u8) {
 fn expect(judge: &mut Judge, call: Call, input: &[u8], answer: Answer, output: &[u8]) {
     for out_len in [output.len(), output.len() + 100] {
         let outcome = judge.run_with(call, input, out_len);
-        if outcome != (answer, output.to_vec()) {
-            println!("trial cut, {}: input {input:?}", call.name());
-            println!("expected {answer:?}, {output:?}; both gave {outcome:?}");
-            std::process::exit(1);
-        }
+        same(call, input, &outcome, &(answer, output.to_vec()));
+    }
+}
+
+/// Ends the program unless both implementations gave what the papers say.
+fn same<T: Debug + PartialEq>(call: Call, input: &[u8], given: &T, expected: &T) {
+    if given != expected {
+        println!("trial cut, {}: input {input:?}", call.name());
+        println!("expected {expected:?}; both gave {given:?}");
+        std::process::exit(1);
     }
 }
 
