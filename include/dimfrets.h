@@ -33,8 +33,8 @@ extern "C" {
 /* Sizes, in bytes. */
 enum dimfrets_size {
     DIMFRETS_OPERATOR_BYTES = 73,   /* an operator file */
-    DIMFRETS_MIN_SHEET = 7,         /* the sheet of a Clifford; each generator adds one */
-    DIMFRETS_MAX_SHEET = 35,        /* the sheet of an operator of count 28 */
+    DIMFRETS_MIN_SHEET = 8,         /* the sheet of a Clifford; each generator adds one */
+    DIMFRETS_MAX_SHEET = 36,        /* the sheet of an operator of count 28 */
     DIMFRETS_MAX_LETTERS = 8192,    /* the longest gate list that is read */
     DIMFRETS_GATES_BUFFER = 7424    /* holds any gate list: 256 * (28 + 1) */
 };
@@ -61,7 +61,8 @@ enum dimfrets_refusal {
     DIMFRETS_UNKNOWN_LETTER = 8,      /* a byte that is no letter of the table */
     DIMFRETS_BEGINNING_TOO_DEEP = 9,  /* a beginning whose product has a least exponent above 28 */
     /* The maker of a sheet. */
-    DIMFRETS_SHEET_LENGTH = 10,       /* length below 7 or above 35 */
+    DIMFRETS_SHEET_LENGTH = 10,       /* length below 8 or above 36 */
+    DIMFRETS_SHEET_COUNT = 16,        /* a first byte that is not the length plus 56 */
     DIMFRETS_SHEET_BYTE = 11,         /* a generator byte outside 1 to 15, or a column byte
                                          outside 1 to 6 and 129 to 134 */
     DIMFRETS_NO_CLIFFORD = 12,        /* the six columns are no Clifford */
@@ -73,13 +74,15 @@ enum dimfrets_refusal {
 
 /*
  * Cuts an operator.
- * Reads an operator file at `in`. Writes its sheet at `out`: t generator bytes,
- * six column bytes of a Clifford whose column 1 is positive, and a last byte, 0 if
- * the operator is their product and 1 if it is the negative of that. Two operators
- * agree up to sign exactly when their sheets agree before the last byte. Answers
- * the count t and L, the number of cuts whose rows grouped as 2 and 4. L is 0 for
- * a Clifford and below t for every other operator; it is the same for M and -M.
- * Refusals, the first that holds: 1, 2, 3, 4, 5, 6 (out_len below t + 7).
+ * Reads an operator file at `in`. Writes its sheet at `out`: the byte 64 + t, t
+ * generator bytes, six column bytes of a Clifford whose column 1 is positive, and a
+ * last byte, 0 if the operator is their product and 1 if it is the negative of
+ * that. Two operators agree up to sign exactly when their sheets agree before the
+ * last byte. Sheets laid end to end can be told apart: each is as long as its first
+ * byte less 56. Answers the count t and L, the number of cuts whose rows grouped as
+ * 2 and 4. L is 0 for a Clifford and below t for every other operator; it is the
+ * same for M and -M.
+ * Refusals, the first that holds: 1, 2, 3, 4, 5, 6 (out_len below t + 8).
  */
 uint64_t dimfrets_operator_to_sheet(const uint8_t *in, size_t in_len,
                                     uint8_t *out, size_t out_len);
@@ -110,8 +113,8 @@ uint64_t dimfrets_gates_to_operator(const uint8_t *in, size_t in_len,
  * Multiplies a sheet.
  * Reads a sheet at `in`. Writes the operator file of its product, the sign of the
  * last byte included, with the least exponent, at `out`. Answers the count,
- * in_len - 7.
- * Refusals, the first that holds: 10, 11, 12, 15, 13, 6 (out_len below 73).
+ * in_len - 8.
+ * Refusals, the first that holds: 10, 16, 11, 12, 15, 13, 6 (out_len below 73).
  */
 uint64_t dimfrets_sheet_to_operator(const uint8_t *in, size_t in_len,
                                     uint8_t *out, size_t out_len);
@@ -130,7 +133,7 @@ static inline int dimfrets_is_refused(uint64_t answer)
     return (answer & 0xFF) != 0;
 }
 
-/* The number of a refusal, 1 to 15; 0 if the answer is none. */
+/* The number of a refusal, 1 to 16; 0 if the answer is none. */
 static inline unsigned dimfrets_refusal_number(uint64_t answer)
 {
     return (unsigned)(answer & 0xFF);

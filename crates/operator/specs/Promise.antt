@@ -5,7 +5,7 @@ use mathlib.Core.Logic.{_≢_, _⊎_}
 use mathlib.Core.Path.{_≡_}
 use Prim.Native.Nat.{ℕ, _+_, _*_, _≤_, _<_}
 use lib.Dec.{eqb, ltb}
-use lib.ListN.{length}
+use lib.ListN.{length, getD}
 use Rattle.matrix.specs.Operator.{SameOperator, LeastExponent}
 use Rattle.file.specs.File.{largestExponent, fileLength, fileExponent, fileMatrix, written, fileOperator}
 use Rattle.letter.specs.declared.Gate.{Gate}
@@ -14,7 +14,7 @@ use Rattle.gate.specs.Product.{MultipliesTo, csGates}
 use Rattle.operator.specs.declared.Cuts.{Cuts}
 use Rattle.operator.specs.declared.Cuts.the-variants.{Taken, Refused}
 use Rattle.operator.specs.declared.Listed as listed
-use Rattle.sheet_bytes.specs.Bytes.{sheet, sheetOperator}
+use Rattle.sheet_bytes.specs.Bytes.{shortest, countByte, sheet, sheetOperator}
 use Rattle.acceptance.specs.Acceptance.{fileRefusal}
 use Rattle.acceptance.specs.Cutting.{fileCount, fileLoose}
 
@@ -49,8 +49,8 @@ pub record ExactlyRefused (b : List ℕ) (n : ℕ) : Type 0 where
 abbrev pub fileSheet : List ℕ → List ℕ
 fileSheet b = sheet (fileExponent b) (fileMatrix b)
 
--- the answer, where the lent buffer has n bytes: "operators 1, 2, 3, 4, 5, 6", and 6 is "shorter than … the sheet"; "beside the count, L"
--- (document 02, P3)
+-- the answer, where the lent buffer has n bytes: "operators 1, 2, 3, 4, 5, 6", and 6 is "shorter than … the sheet", which has t + 8 bytes
+-- (document 02, P4); "beside the count, L" (P3)
 unfoldable pub sheetAnswer : List ℕ → ℕ → Cuts
 sheetAnswer b n = cond (eqb (fileRefusal b) 0) (cond (ltb n (length (fileSheet b))) (Refused 6) (Taken (fileCount b) (fileLoose b))) (Refused (fileRefusal b))
 
@@ -63,8 +63,10 @@ pub record SheetPromise (b old new : List ℕ) (a : Cuts) : Type 0 where
   pub buffer : new ≡ sheetBuffer b old
   -- demand 2: the sheet's generators in order, times its Clifford, times the sign are the operator handed in
   pub multiplies : fileRefusal b ≡ 0 → SameOperator (sheetOperator (fileSheet b)) (fileOperator b)
-  -- demand 3: the count is the least exponent
+  -- demand 3: the count is the least exponent, the number of the sheet's generators, and what its first byte says
   pub least : fileRefusal b ≡ 0 → LeastExponent (fileOperator b) (fileCount b)
+  pub exact : fileRefusal b ≡ 0 → length (fileSheet b) ≡ fileCount b + shortest
+  pub stated : fileRefusal b ≡ 0 → getD (fileSheet b) 0 0 ≡ countByte (fileCount b)
   pub exactly : ExactlyRefused b (refusalOf a)
 
 -- ---- gate lists

@@ -5,7 +5,7 @@ use mathlib.Core.Path.{_≡_}
 use Prim.Native.Nat.{ℕ, _+_}
 use lib.Dec.{eqb, ltb}
 use lib.IntN.{ℤ}
-use lib.ListN.{length}
+use lib.ListN.{length, getD}
 use Rattle.matrix.specs.List.{sameList}
 use Rattle.matrix.specs.Operator.{SameOperator, LeastExponent}
 use Rattle.matrix.specs.Array.{leastForm}
@@ -13,7 +13,7 @@ use Rattle.file.specs.declared.Answer.{Answer}
 use Rattle.file.specs.declared.Answer.the-variants.{Count, Refused}
 use Rattle.file.specs.File.{fileLength, fileExponent, fileOperator, fileOf, written}
 use Rattle.file.specs.declared.Read.{Read}
-use Rattle.sheet_bytes.specs.Bytes.{shortest, sheet, sheetOperator}
+use Rattle.sheet_bytes.specs.Bytes.{shortest, countByte, sheet, sheetOperator}
 use Rattle.sheet_bytes.specs.Sheet.{sheetRefusal, sheetLeast}
 
 -- what is kept of an operator that is to have this sheet: 13, or 0 and the operator at the least exponent
@@ -46,8 +46,9 @@ pub record OperatorPromise (s old new : List ℕ) (a : Answer) : Type 0 where
   pub buffer : new ≡ operatorBuffer s old
   -- demand 2: the operator of the file written is the sheet's, its generators in order, times its Clifford, times the sign
   pub multiplies : sheetRefusal s ≡ 0 → SameOperator (fileOperator (sheetFile s)) (sheetOperator s)
-  -- demand 3: the count is the operator's least exponent, and the number of the sheet's generators
+  -- demand 3: the count is the operator's least exponent, the number of the sheet's generators, and what its first byte says
   pub least : sheetRefusal s ≡ 0 → LeastExponent (sheetOperator s) (sheetLeast s .exponent)
   pub exact : sheetRefusal s ≡ 0 → length s ≡ sheetLeast s .exponent + shortest
+  pub stated : sheetRefusal s ≡ 0 → getD s 0 0 ≡ countByte (sheetLeast s .exponent)
   -- it is the exponent of the file written
   pub count : fileExponent (sheetFile s) ≡ sheetLeast s .exponent

@@ -1,4 +1,4 @@
-// Sheets read into operator files: refusals 10, 11, 12, 15, 13 and 6. The contracts cite specs/Promise.antt.
+// Sheets read into operator files: refusals 10, 16, 11, 12, 15, 13 and 6. The contracts cite specs/Promise.antt.
 
 use file::Answer;
 use file::Read;
@@ -16,7 +16,7 @@ ghost use Rattle.sheet_bytes.specs.Bytes.{sheetBytes};
 ghost use Rattle.sheet_bytes.specs.Sheet.{isNumber};
 ghost use Rattle.sheet.specs.Promise.{CutAgain, SheetRead, OperatorPromise};
 
-// The product of the first `count` generators and a Clifford.
+// The product of the generators of the first `count` bytes and a Clifford.
 fn multiplied(bytes: &[u8], count: usize, columns: [u8; 6]) -> [i64; 36]
     requires { ⌜ (count ≤ 28) × (count ≤ length (now bytes)) × (every count (λ n. isNumber (getD (now bytes) n 0)) ≡ true) × (arePermutation columns ≡ true) ⌝ }
     ensures { λ r. ⌜ r ≡ listed (normalForm (take count (now (bytes .entry))) (columnsMatrix columns) .matrix) ⌝ }
@@ -81,14 +81,14 @@ fn read_sheet(bytes: &[u8]) -> Read
         return file::refused(refusal);
     }
     let count = bytes.len() - sheet_bytes::SHORTEST;
-    let columns = sheet_bytes::columns_from(bytes, count, bytes[bytes.len() - 1]);
-    let m = multiplied(bytes, count, columns);
+    let columns = sheet_bytes::columns_from(bytes, bytes.len() - 7, bytes[bytes.len() - 1]);
+    let m = multiplied(&bytes[1..], count, columns);
     cut_again(bytes, count as u8, m)
 }
 
 // A sheet into an operator file at the front of `out`.
-// Wrong, and refused: a sheet taken in that cutting would not give; the first generator multiplied in every place; the sign read from the
-// last column.
+// Wrong, and refused: a sheet taken in that cutting would not give; the first generator multiplied in every place; the first byte taken for
+// a generator; the sign read from the last column.
 pub fn sheet_to_operator(bytes: &[u8], out: &mut [u8]) -> Answer
     ensures { λ r. ⌜ OperatorPromise (now (bytes .entry)) (now (out .entry)) (now (out .exit)) r ⌝ }
 {

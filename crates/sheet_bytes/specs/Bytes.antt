@@ -1,7 +1,7 @@
--- A sheet's bytes (document 01, "Sheet"; document 02, P2), and the operator that they stand for.
+-- A sheet's bytes (document 01, "Sheet"; document 02, P2 and P4), and the operator that they stand for.
 use mathlib.Core.Bool.{cond}
 use mathlib.Core.List.{List, [], _∷_, _++_}
-use Prim.Native.Nat.{ℕ, _-_}
+use Prim.Native.Nat.{ℕ, _+_, _-_}
 use lib.IntN.{ℤ}
 use lib.ListN.{length, getD, take, drop}
 use Rattle.matrix.specs.Matrix.{scaled, entry, listed}
@@ -9,14 +9,18 @@ use Rattle.matrix.specs.Operator.{Operator, operator}
 use Rattle.clifford.specs.Columns.{columnsMatrix, columnBytes, isMinus, signOf, signed}
 use Rattle.reduction.specs.Reduction.{taken, remaining, normalForm}
 
--- "number 10 allows 7 to 35": the six columns and the sign, and with them up to 28 generators
+-- "The sheet's length is t + 8, number 10 allows 8 to 36": the count, the six columns and the sign, and with them up to 28 generators
 abbrev pub shortest : ℕ
-shortest = 7
+shortest = 8
 
 abbrev pub longest : ℕ
-longest = 35
+longest = 36
 
 -- ---- written
+
+-- "The count … becomes the first byte of every sheet, with 64 added"
+abbrev pub countByte : ℕ → ℕ
+countByte t = 64 + t
 
 -- "a last byte says 0 for M or 1 for −M": M is the one of the two whose Clifford has a positive column 1, and bs are the columns of the one at hand
 abbrev pub signByte : List ℕ → ℕ
@@ -26,10 +30,10 @@ signByte bs = cond (isMinus (getD bs 0 0)) 1 0
 abbrev pub writtenColumns : List ℕ → List ℕ
 writtenColumns bs = signed (signByte bs) bs
 
--- "t bytes with the generator numbers, then six bytes for columns 1 to 6 of the Clifford", and the last byte: of the generators gs, and of the
--- columns bs of what remains after them
+-- the first byte, "t bytes with the generator numbers, then six bytes for columns 1 to 6 of the Clifford", and the last byte: of the generators
+-- gs, and of the columns bs of what remains after them
 unfoldable pub sheetBytes : List ℕ → List ℕ → List ℕ
-sheetBytes gs bs = gs ++ (writtenColumns bs ++ (signByte bs ∷ []))
+sheetBytes gs bs = countByte (length gs) ∷ (gs ++ (writtenColumns bs ++ (signByte bs ∷ [])))
 
 -- the sheet of an operator
 unfoldable pub sheet : ℕ → List ℤ → List ℕ
@@ -40,11 +44,13 @@ sheetOf A = sheet (A .exponent) (listed (A .matrix))
 
 -- ---- read
 
+-- as many bytes behind the first as the length says; the first byte itself is compared with the length (refusal 16)
 abbrev pub sheetNumbers : List ℕ → List ℕ
-sheetNumbers s = take (length s - shortest) s
+sheetNumbers s = take (length s - shortest) (drop 1 s)
 
+-- the six bytes before the last
 abbrev pub sheetColumns : List ℕ → List ℕ
-sheetColumns s = take 6 (drop (length s - shortest) s)
+sheetColumns s = take 6 (drop (length s - 7) s)
 
 abbrev pub sheetSign : List ℕ → ℕ
 sheetSign s = getD s (length s - 1) 0

@@ -1,9 +1,10 @@
--- Sheets handed in (document 01, "The maker of a sheet"; document 02, P2).
+-- Sheets handed in (document 01, "The maker of a sheet"; document 02, P2 and P4).
 use mathlib.Core.Bool.{Bool, not, cond, _&&_, _||_}
 use mathlib.Core.List.{List}
-use Prim.Native.Nat.{ℕ, _-_}
-use lib.Dec.{leb, ltb}
-use lib.ListN.{length, getD}
+use mathlib.Core.Path.{_≡_}
+use Prim.Native.Nat.{ℕ, _+_, _-_}
+use lib.Dec.{eqb, leb, ltb}
+use lib.ListN.{length, getD, drop}
 use Rattle.matrix.specs.declared.Least.{Least}
 use Rattle.matrix.specs.List.{sameList}
 use Rattle.matrix.specs.Range.{every}
@@ -12,13 +13,20 @@ use Rattle.matrix.specs.Array.{leastForm}
 use Rattle.clifford.specs.Columns.{areColumnBytes, arePermutation, isEven, isMinus}
 use Rattle.sheet_bytes.specs.Bytes.{shortest, longest, sheetOf, sheetColumns, sheetSign, sheetOperator}
 
+-- not "a first byte that isn't the length plus 56"
+abbrev pub Counted : List ℕ → Type 0
+Counted s = getD s 0 0 ≡ length s + 56
+
+abbrev pub isCounted : List ℕ → Bool
+isCounted s = eqb (getD s 0 0) (length s + 56)
+
 -- "1 to 15"
 abbrev pub isNumber : ℕ → Bool
 isNumber g = leb 1 g && leb g 15
 
--- whether every byte before the columns is a generator's number
+-- whether every byte between the first and the columns is a generator's number
 abbrev pub areNumbers : List ℕ → Bool
-areNumbers s = every (length s - shortest) (λ n. isNumber (getD s n 0))
+areNumbers s = every (length s - shortest) (λ n. isNumber (getD (drop 1 s) n 0))
 
 -- whether six column bytes are those of a Clifford
 abbrev pub isClifford : List ℕ → Bool
@@ -28,14 +36,16 @@ isClifford bs = arePermutation bs && isEven bs
 abbrev pub hasWrongSign : List ℕ → ℕ → Bool
 hasWrongSign bs s = ltb 1 s || isMinus (getD bs 0 0)
 
--- the tests of a sheet's bytes in their order: "10 allows 7 to 35", "11: a generator byte outside 1 to 15, or a column byte outside 1 to 6 and
--- 129 to 134", "12: the six columns are no Clifford", "15, a last byte above 1 or a negative column 1, directly after 12"; n where they pass all
+-- the tests of a sheet's bytes in their order: "10 allows 8 to 36", "16, a first byte that isn't the length plus 56, directly after 10",
+-- "11: a generator byte outside 1 to 15, or a column byte outside 1 to 6 and 129 to 134", "12: the six columns are no Clifford", "15, a last byte
+-- above 1 or a negative column 1, directly after 12"; n where they pass all
 abbrev pub bytesRefusal : List ℕ → ℕ → ℕ
 bytesRefusal s n =
     cond (ltb (length s) shortest || ltb longest (length s)) 10
+    (cond (not (isCounted s)) 16
     (cond (not (areNumbers s && areColumnBytes (sheetColumns s))) 11
     (cond (not (isClifford (sheetColumns s))) 12
-    (cond (hasWrongSign (sheetColumns s) (sheetSign s)) 15 n)))
+    (cond (hasWrongSign (sheetColumns s) (sheetSign s)) 15 n))))
 
 -- the refusals of a sheet: these, then "13: cutting its operator gives another sheet". 0 is none
 unfoldable pub sheetRefusal : List ℕ → ℕ

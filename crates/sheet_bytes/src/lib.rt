@@ -1,4 +1,4 @@
-// A sheet's bytes, written one at a time, and tested: refusals 10, 11, 12 and 15. The contracts cite specs/Bytes.antt and specs/Sheet.antt.
+// A sheet's bytes, written one at a time, and tested: refusals 10, 16, 11, 12 and 15. The contracts cite specs/Bytes.antt and specs/Sheet.antt.
 
 ghost use mathlib.Core.Bool.{true, not, cond};
 ghost use mathlib.Core.Path.{_≡_};
@@ -7,13 +7,13 @@ ghost use lib.ListN.{length, getD, take, drop};
 ghost use Rattle.matrix.specs.Range.{every};
 ghost use Rattle.matrix.specs.Matrix.{entry};
 ghost use Rattle.clifford.specs.Columns.{areColumnBytes, signed};
-ghost use Rattle.sheet_bytes.specs.Bytes.{shortest, signByte, sheetBytes};
-ghost use Rattle.sheet_bytes.specs.Sheet.{isNumber, isClifford, hasWrongSign, bytesRefusal};
+ghost use Rattle.sheet_bytes.specs.Bytes.{shortest, longest, signByte, sheetBytes};
+ghost use Rattle.sheet_bytes.specs.Sheet.{isCounted, isNumber, isClifford, hasWrongSign, bytesRefusal};
 
-// The fewest and the most bytes of a sheet: six columns and the sign, and with them up to 28 generators.
-pub const SHORTEST: usize = 7;
+// The fewest and the most bytes of a sheet: the count, six columns and the sign, and with them up to 28 generators.
+pub const SHORTEST: usize = 8;
 
-pub const LONGEST: usize = 35;
+pub const LONGEST: usize = 36;
 
 // The sign of what remains: 1 where column 1 has -1.
 fn sign_byte(columns: [u8; 6]) -> u8
@@ -30,15 +30,26 @@ pub fn sheet_byte(count: u8, numbers: [u8; 60], columns: [u8; 6], n: usize) -> u
     requires { ⌜ (count ≤ 60) × (n < count + shortest) ⌝ }
     ensures { λ r. ⌜ r ≡ getD (sheetBytes (take count numbers) columns) n 0 ⌝ }
 {
+    if n == 0 {
+        return 64 + count;
+    }
     let t = count as usize;
-    if n < t {
-        return numbers[n];
+    if n <= t {
+        return numbers[n - 1];
     }
     let sign = sign_byte(columns);
-    if n == t + 6 {
+    if n == t + 7 {
         return sign;
     }
-    clifford::signed_byte(columns[n - t], sign)
+    clifford::signed_byte(columns[n - 1 - t], sign)
+}
+
+// Whether the first byte is the length plus 56.
+fn is_counted(bytes: &[u8]) -> bool
+    requires { ⌜ (shortest ≤ length (now bytes)) × (length (now bytes) ≤ longest) ⌝ }
+    ensures { λ r. ⌜ r ≡ isCounted (now (bytes .entry)) ⌝ }
+{
+    bytes[0] == bytes.len() as u8 + 56
 }
 
 // Whether the first `count` bytes are generator numbers.
@@ -62,7 +73,7 @@ fn are_numbers(bytes: &[u8], count: usize) -> bool
 
 // The six column bytes from `at` on, times a sign.
 pub fn columns_from(bytes: &[u8], at: usize, sign: u8) -> [u8; 6]
-    requires { ⌜ length (now bytes) ≡ at + shortest ⌝ }
+    requires { ⌜ at + 6 ≤ length (now bytes) ⌝ }
     ensures { λ r. ⌜ r ≡ signed sign (take 6 (drop at (now (bytes .entry)))) ⌝ }
 {
     let mut columns = [0u8; 6];
@@ -117,10 +128,14 @@ pub fn bytes_refusal(bytes: &[u8]) -> u8
     if LONGEST < bytes.len() {
         return 10;
     }
-    let count = bytes.len() - SHORTEST;
-    if !are_numbers(bytes, count) {
+    let counted = is_counted(bytes);
+    let numbers = are_numbers(&bytes[1..], bytes.len() - SHORTEST);
+    if !counted {
+        return 16;
+    }
+    if !numbers {
         return 11;
     }
-    let columns = columns_from(bytes, count, 0);
+    let columns = columns_from(bytes, bytes.len() - 7, 0);
     columns_refusal(columns, bytes[bytes.len() - 1])
 }

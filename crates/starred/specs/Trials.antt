@@ -1,10 +1,11 @@
--- Document 01's trial cuts that are marked to be proved of the definitions, with the last byte of document 02, P2, and the L of P3; these
--- requests' own cases, and the orders of P1: a table of cases, and the test that each passes.
+-- Document 01's trial cuts that are marked to be proved of the definitions, with the first byte of document 02, P4, the last byte of P2 and the
+-- L of P3; these requests' own cases, and the orders of P1: a table of cases, and the test that each passes.
 use mathlib.Core.Bool.{Bool, true, false, _&&_}
 use mathlib.Core.List.{List, [], _∷_}
 use Prim.Native.Nat.{ℕ}
 use lib.Dec.{eqb}
 use lib.IntN.{pos, negsuc, _*ℤ_}
+use lib.ListN.{replicate}
 use Rattle.matrix.specs.List.{sameList}
 use Rattle.matrix.specs.Matrix.{Matrix, δ, replaced, listed}
 use Rattle.file.specs.declared.Answer.{Answer}
@@ -54,28 +55,35 @@ allPass [] = true
 allPass (t ∷ ts) = passes t && allPass ts
 
 -- the identity; twice the identity, k 2; twice the product of `CHC`, k 4; two sheets that earn 13; a last byte above 1, also of a sheet that
--- would earn 13; a negative column 1; columns that are no Clifford; the identity with −1 in row 1; `C`; `CC` and `Z`; `HH`, which is the
--- identity; `ZZ`, which is its negative; eight `C`, which are the identity, count 0; `CHC`; the orders
+-- would earn 13; a negative column 1; columns that are no Clifford; the sheet of `CHC` without its first byte, and without its last one too; a
+-- first byte for a longer sheet, also of a sheet that would earn 11; seven bytes and 37, whose first byte fits them; the identity with −1 in
+-- row 1; `C`; `CC` and `Z`; `HH`, which is the identity; `ZZ`, which is its negative; eight `C`, which are the identity, count 0; `CHC`; the orders
 unfoldable pub trials : List Trial
 trials =
-    cuts 0 δ (1 ∷ 2 ∷ 3 ∷ 4 ∷ 5 ∷ 6 ∷ 0 ∷ []) 0 ∷
-    cuts 2 (λ r c. pos 2 *ℤ δ r c) (1 ∷ 2 ∷ 3 ∷ 4 ∷ 5 ∷ 6 ∷ 0 ∷ []) 0 ∷
-    cuts 4 (λ r c. pos 2 *ℤ productOf (Cs ∷ H1 ∷ Cs ∷ []) .matrix r c) (3 ∷ 13 ∷ 3 ∷ 130 ∷ 1 ∷ 4 ∷ 5 ∷ 6 ∷ 0 ∷ []) 1 ∷
-    sheetRefused (13 ∷ 3 ∷ 1 ∷ 2 ∷ 3 ∷ 4 ∷ 5 ∷ 6 ∷ 0 ∷ []) 13 ∷
-    sheetRefused (3 ∷ 3 ∷ 1 ∷ 2 ∷ 3 ∷ 4 ∷ 5 ∷ 6 ∷ 0 ∷ []) 13 ∷
-    sheetRefused (1 ∷ 2 ∷ 3 ∷ 4 ∷ 5 ∷ 6 ∷ 2 ∷ []) 15 ∷
-    sheetRefused (3 ∷ 3 ∷ 1 ∷ 2 ∷ 3 ∷ 4 ∷ 5 ∷ 6 ∷ 2 ∷ []) 15 ∷
-    sheetRefused (129 ∷ 130 ∷ 131 ∷ 132 ∷ 133 ∷ 134 ∷ 0 ∷ []) 15 ∷
-    sheetRefused (129 ∷ 2 ∷ 3 ∷ 4 ∷ 5 ∷ 6 ∷ 0 ∷ []) 12 ∷
+    cuts 0 δ (64 ∷ 1 ∷ 2 ∷ 3 ∷ 4 ∷ 5 ∷ 6 ∷ 0 ∷ []) 0 ∷
+    cuts 2 (λ r c. pos 2 *ℤ δ r c) (64 ∷ 1 ∷ 2 ∷ 3 ∷ 4 ∷ 5 ∷ 6 ∷ 0 ∷ []) 0 ∷
+    cuts 4 (λ r c. pos 2 *ℤ productOf (Cs ∷ H1 ∷ Cs ∷ []) .matrix r c) (66 ∷ 3 ∷ 13 ∷ 3 ∷ 130 ∷ 1 ∷ 4 ∷ 5 ∷ 6 ∷ 0 ∷ []) 1 ∷
+    sheetRefused (66 ∷ 13 ∷ 3 ∷ 1 ∷ 2 ∷ 3 ∷ 4 ∷ 5 ∷ 6 ∷ 0 ∷ []) 13 ∷
+    sheetRefused (66 ∷ 3 ∷ 3 ∷ 1 ∷ 2 ∷ 3 ∷ 4 ∷ 5 ∷ 6 ∷ 0 ∷ []) 13 ∷
+    sheetRefused (64 ∷ 1 ∷ 2 ∷ 3 ∷ 4 ∷ 5 ∷ 6 ∷ 2 ∷ []) 15 ∷
+    sheetRefused (66 ∷ 3 ∷ 3 ∷ 1 ∷ 2 ∷ 3 ∷ 4 ∷ 5 ∷ 6 ∷ 2 ∷ []) 15 ∷
+    sheetRefused (64 ∷ 129 ∷ 130 ∷ 131 ∷ 132 ∷ 133 ∷ 134 ∷ 0 ∷ []) 15 ∷
+    sheetRefused (64 ∷ 129 ∷ 2 ∷ 3 ∷ 4 ∷ 5 ∷ 6 ∷ 0 ∷ []) 12 ∷
+    sheetRefused (3 ∷ 13 ∷ 3 ∷ 130 ∷ 1 ∷ 4 ∷ 5 ∷ 6 ∷ 0 ∷ []) 16 ∷
+    sheetRefused (3 ∷ 13 ∷ 3 ∷ 130 ∷ 1 ∷ 4 ∷ 5 ∷ 6 ∷ []) 16 ∷
+    sheetRefused (65 ∷ 1 ∷ 2 ∷ 3 ∷ 4 ∷ 5 ∷ 6 ∷ 0 ∷ []) 16 ∷
+    sheetRefused (65 ∷ 0 ∷ 2 ∷ 3 ∷ 4 ∷ 5 ∷ 6 ∷ 0 ∷ []) 16 ∷
+    sheetRefused (63 ∷ 1 ∷ 2 ∷ 3 ∷ 4 ∷ 5 ∷ 6 ∷ []) 10 ∷
+    sheetRefused (93 ∷ replicate 36 1) 10 ∷
     fileRefused 0 (replaced 0 (λ c. negsuc 0 *ℤ δ 0 c) δ) 5 ∷
-    multiplies (Cs ∷ []) (3 ∷ 1 ∷ 2 ∷ 3 ∷ 4 ∷ 5 ∷ 6 ∷ 0 ∷ []) 0 ∷
-    multiplies (Cs ∷ Cs ∷ []) (2 ∷ 129 ∷ 6 ∷ 5 ∷ 132 ∷ 131 ∷ 0 ∷ []) 0 ∷
-    multiplies (Cz ∷ []) (2 ∷ 129 ∷ 6 ∷ 5 ∷ 132 ∷ 131 ∷ 0 ∷ []) 0 ∷
+    multiplies (Cs ∷ []) (65 ∷ 3 ∷ 1 ∷ 2 ∷ 3 ∷ 4 ∷ 5 ∷ 6 ∷ 0 ∷ []) 0 ∷
+    multiplies (Cs ∷ Cs ∷ []) (64 ∷ 2 ∷ 129 ∷ 6 ∷ 5 ∷ 132 ∷ 131 ∷ 0 ∷ []) 0 ∷
+    multiplies (Cz ∷ []) (64 ∷ 2 ∷ 129 ∷ 6 ∷ 5 ∷ 132 ∷ 131 ∷ 0 ∷ []) 0 ∷
     equals (H1 ∷ H1 ∷ []) 0 δ ∷
     equals (Cz ∷ Cz ∷ []) 0 (λ r c. negsuc 0 *ℤ δ r c) ∷
-    multiplies (Cz ∷ Cz ∷ []) (1 ∷ 2 ∷ 3 ∷ 4 ∷ 5 ∷ 6 ∷ 1 ∷ []) 0 ∷
+    multiplies (Cz ∷ Cz ∷ []) (64 ∷ 1 ∷ 2 ∷ 3 ∷ 4 ∷ 5 ∷ 6 ∷ 1 ∷ []) 0 ∷
     equals (Cs ∷ Cs ∷ Cs ∷ Cs ∷ Cs ∷ Cs ∷ Cs ∷ Cs ∷ []) 0 δ ∷
-    multiplies (Cs ∷ H1 ∷ Cs ∷ []) (3 ∷ 13 ∷ 3 ∷ 130 ∷ 1 ∷ 4 ∷ 5 ∷ 6 ∷ 0 ∷ []) 1 ∷
+    multiplies (Cs ∷ H1 ∷ Cs ∷ []) (66 ∷ 3 ∷ 13 ∷ 3 ∷ 130 ∷ 1 ∷ 4 ∷ 5 ∷ 6 ∷ 0 ∷ []) 1 ∷
     orders 10 50 10 ∷
     orders 10 150 12 ∷
     orders 28 50 29 ∷

@@ -1,4 +1,4 @@
-// Document 01's trial cuts, and the cases of document 02, P1 to P3, run through the five calls: a line for each case, with the answer. I is the
+// Document 01's trial cuts, and the cases of document 02, P1 to P4, run through the five calls: a line for each case, with the answer. I is the
 // identity, and the six rows are those of the example of `cut`.
 
 // An entry of −1, in the 16 bits of an operator file.
@@ -73,17 +73,26 @@ fn listed() {
 }
 
 fn sheets() {
-    show::sheet_case(&[3, 13, 3, 130, 1, 4, 5, 6, 0]);
-    show::sheet_case(&[1, 2, 3, 4, 5, 6, 1]);
-    show::sheet_case(&[13, 3, 1, 2, 3, 4, 5, 6, 0]);
-    show::sheet_case(&[3, 3, 1, 2, 3, 4, 5, 6, 0]);
+    show::sheet_case(&[66, 3, 13, 3, 130, 1, 4, 5, 6, 0]);
+    show::sheet_case(&[64, 1, 2, 3, 4, 5, 6, 1]);
+    show::sheet_case(&[66, 13, 3, 1, 2, 3, 4, 5, 6, 0]);
+    show::sheet_case(&[66, 3, 3, 1, 2, 3, 4, 5, 6, 0]);
 }
 
 fn signs() {
-    show::sheet_case(&[1, 2, 3, 4, 5, 6, 2]);
-    show::sheet_case(&[3, 3, 1, 2, 3, 4, 5, 6, 2]);
-    show::sheet_case(&[129, 130, 131, 132, 133, 134, 0]);
-    show::sheet_case(&[129, 2, 3, 4, 5, 6, 0]);
+    show::sheet_case(&[64, 1, 2, 3, 4, 5, 6, 2]);
+    show::sheet_case(&[66, 3, 3, 1, 2, 3, 4, 5, 6, 2]);
+    show::sheet_case(&[64, 129, 130, 131, 132, 133, 134, 0]);
+    show::sheet_case(&[64, 129, 2, 3, 4, 5, 6, 0]);
+}
+
+fn counts() {
+    show::sheet_case(&[3, 13, 3, 130, 1, 4, 5, 6, 0]);
+    show::sheet_case(&[3, 13, 3, 130, 1, 4, 5, 6]);
+    show::sheet_case(&[65, 1, 2, 3, 4, 5, 6, 0]);
+    show::sheet_case(&[65, 0, 2, 3, 4, 5, 6, 0]);
+    show::sheet_case(&[63, 1, 2, 3, 4, 5, 6]);
+    show::sheet_case(&[1, 2, 3, 4, 5, 6, 0]);
 }
 
 fn orders() {
@@ -105,5 +114,6 @@ fn main() {
     listed();
     sheets();
     signs();
+    counts();
     orders();
 }

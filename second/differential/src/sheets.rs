@@ -7,7 +7,7 @@
 use plain::generator::GENERATOR_COUNT;
 use plain::matrix::SIZE;
 use plain::operator::MAX_EXPONENT;
-use plain::sheet::{MINUS, MIN_SHEET};
+use plain::sheet::{ABOVE_LENGTH, MINUS, MIN_SHEET};
 use samples::Random;
 
 use crate::call::Call;
@@ -20,10 +20,11 @@ const LENGTHS: std::ops::RangeInclusive<usize> = 0..=42;
 const BAD_GENERATORS: [u8; 8] = [0, 16, 17, 127, 128, 129, 143, 255];
 const BAD_COLUMNS: [u8; 8] = [0, 7, 8, 127, 128, 135, 136, 255];
 const BAD_LAST_BYTES: [u8; 8] = [2, 3, 4, 127, 128, 129, 254, 255];
+const OTHER_FIRST_BYTES: [u8; 8] = [0, 1, 15, 63, 64, 92, 93, 255];
 
 type Damage = fn(&mut Random, &mut Vec<u8>);
 
-const DAMAGES: [Damage; 26] = [
+const DAMAGES: [Damage; 36] = [
     bad_generator,
     bad_column,
     bad_generator_and_repeated,
@@ -48,6 +49,16 @@ const DAMAGES: [Damage; 26] = [
     wrong_sign_and_no_clifford,
     wrong_sign_and_other_sheet,
     without_last_byte,
+    other_first_byte,
+    next_first_byte,
+    count_first,
+    length_first,
+    without_first_byte,
+    without_first_and_last_byte,
+    wrong_count_and_bad_byte,
+    wrong_count_and_no_clifford,
+    wrong_count_and_wrong_sign,
+    wrong_count_and_other_sheet,
     flip_bit,
     random_sheet,
 ];
@@ -70,6 +81,9 @@ const WRONG_SIGNS: [Damage; 4] = [
     negate_all_columns_and_sign,
     negate_column_1_and_another,
 ];
+
+/// Damages that earn 16, as a rule.
+const WRONG_COUNTS: [Damage; 4] = [other_first_byte, next_first_byte, count_first, length_first];
 
 /// Runs the call that reads sheets.
 pub fn run(judge: &mut Judge) {
@@ -94,13 +108,24 @@ pub fn run(judge: &mut Judge) {
     }
 }
 
-/// Random generators before the sheet of a Clifford, or as much of it as the length leaves.
+/// The sheet of a Clifford, or as much of it as the length leaves, with random generators in it and the
+/// first byte of the length.
 fn of_length(random: &mut Random, len: usize) -> Vec<u8> {
-    let generators = len.saturating_sub(MIN_SHEET);
-    let mut sheet: Vec<u8> = (0..generators).map(|_| generator(random)).collect();
-    let clifford = samples::sheet(random, 0);
-    sheet.extend_from_slice(&clifford[..len - generators]);
+    let mut sheet = samples::sheet(random, 0);
+    sheet.truncate(len);
+    while sheet.len() < len {
+        sheet.insert(1, generator(random));
+    }
+    say_length(&mut sheet);
     sheet
+}
+
+/// Writes the first byte of the length.
+fn say_length(sheet: &mut [u8]) {
+    let said = sheet.len() + ABOVE_LENGTH;
+    if let Some(first) = sheet.first_mut() {
+        *first = said as u8;
+    }
 }
 
 /// The number of generator bytes; none in what is shorter than a sheet.
@@ -110,12 +135,12 @@ fn count(sheet: &[u8]) -> usize {
 
 /// The place of a generator, if there is one.
 fn generator_place(random: &mut Random, sheet: &[u8]) -> Option<usize> {
-    (count(sheet) > 0).then(|| random.below(count(sheet)))
+    (count(sheet) > 0).then(|| 1 + random.below(count(sheet)))
 }
 
-/// The place of column 1, if there are six columns and the last byte.
+/// The place of column 1, if there are the first byte, six columns and the last byte.
 fn column_1(sheet: &[u8]) -> Option<usize> {
-    sheet.len().checked_sub(MIN_SHEET)
+    (sheet.len() >= MIN_SHEET).then(|| 1 + count(sheet))
 }
 
 /// The places of two different columns, if there are any.
@@ -185,7 +210,7 @@ fn negate_two_columns(random: &mut Random, sheet: &mut Vec<u8>) {
 
 fn equal_neighbours(random: &mut Random, sheet: &mut Vec<u8>) {
     if count(sheet) > 1 {
-        let place = random.below(count(sheet) - 1);
+        let place = 1 + random.below(count(sheet) - 1);
         sheet[place] = sheet[place + 1];
     }
 }
@@ -193,7 +218,7 @@ fn equal_neighbours(random: &mut Random, sheet: &mut Vec<u8>) {
 fn swap_generators(random: &mut Random, sheet: &mut Vec<u8>) {
     if count(sheet) > 1 {
         let (i, j) = random.two_below(count(sheet));
-        sheet.swap(i, j);
+        sheet.swap(1 + i, 1 + j);
     }
 }
 
@@ -204,13 +229,17 @@ fn other_generator(random: &mut Random, sheet: &mut Vec<u8>) {
 }
 
 fn insert_generator(random: &mut Random, sheet: &mut Vec<u8>) {
-    let place = random.below(count(sheet) + 1);
-    sheet.insert(place, generator(random));
+    if !sheet.is_empty() {
+        let place = 1 + random.below(count(sheet) + 1);
+        sheet.insert(place, generator(random));
+        say_length(sheet);
+    }
 }
 
 fn remove_generator(random: &mut Random, sheet: &mut Vec<u8>) {
     if let Some(place) = generator_place(random, sheet) {
         sheet.remove(place);
+        say_length(sheet);
     }
 }
 
@@ -279,9 +308,83 @@ fn wrong_sign_and_other_sheet(random: &mut Random, sheet: &mut Vec<u8>) {
     equal_neighbours(random, sheet);
 }
 
-/// Each byte is read in the place before its own.
+/// Each byte but the first is read in the place behind its own.
 fn without_last_byte(_: &mut Random, sheet: &mut Vec<u8>) {
     sheet.pop();
+    say_length(sheet);
+}
+
+fn other_first_byte(random: &mut Random, sheet: &mut Vec<u8>) {
+    if let Some(first) = sheet.first_mut() {
+        *first = if random.chance(2) {
+            *random.pick(&OTHER_FIRST_BYTES)
+        } else {
+            random.below(256) as u8
+        };
+    }
+}
+
+/// The first byte of a sheet that is one byte longer or shorter.
+fn next_first_byte(random: &mut Random, sheet: &mut Vec<u8>) {
+    if let Some(first) = sheet.first_mut() {
+        let step = if random.chance(2) { 1 } else { 255 };
+        *first = first.wrapping_add(step);
+    }
+}
+
+/// The count, without 64 added.
+fn count_first(_: &mut Random, sheet: &mut Vec<u8>) {
+    let count = count(sheet);
+    if let Some(first) = sheet.first_mut() {
+        *first = count as u8;
+    }
+}
+
+fn length_first(_: &mut Random, sheet: &mut Vec<u8>) {
+    let length = sheet.len();
+    if let Some(first) = sheet.first_mut() {
+        *first = length as u8;
+    }
+}
+
+/// A sheet of P2.
+fn without_first_byte(_: &mut Random, sheet: &mut Vec<u8>) {
+    if !sheet.is_empty() {
+        sheet.remove(0);
+    }
+}
+
+/// A sheet of document 01.
+fn without_first_and_last_byte(random: &mut Random, sheet: &mut Vec<u8>) {
+    if sheet.last() == Some(&1) {
+        negate_all_columns(random, sheet);
+    }
+    without_first_byte(random, sheet);
+    sheet.pop();
+}
+
+fn wrong_count(random: &mut Random, sheet: &mut Vec<u8>) {
+    random.pick(&WRONG_COUNTS)(random, sheet);
+}
+
+fn wrong_count_and_bad_byte(random: &mut Random, sheet: &mut Vec<u8>) {
+    wrong_count(random, sheet);
+    random.pick(&BAD_BYTES)(random, sheet);
+}
+
+fn wrong_count_and_no_clifford(random: &mut Random, sheet: &mut Vec<u8>) {
+    wrong_count(random, sheet);
+    random.pick(&NO_CLIFFORDS)(random, sheet);
+}
+
+fn wrong_count_and_wrong_sign(random: &mut Random, sheet: &mut Vec<u8>) {
+    wrong_count(random, sheet);
+    wrong_sign(random, sheet);
+}
+
+fn wrong_count_and_other_sheet(random: &mut Random, sheet: &mut Vec<u8>) {
+    wrong_count(random, sheet);
+    equal_neighbours(random, sheet);
 }
 
 fn flip_bit(random: &mut Random, sheet: &mut Vec<u8>) {
@@ -291,6 +394,10 @@ fn flip_bit(random: &mut Random, sheet: &mut Vec<u8>) {
     }
 }
 
+/// Random bytes, behind the right first byte or a random one too.
 fn random_sheet(random: &mut Random, sheet: &mut Vec<u8>) {
     random.fill(sheet);
+    if random.chance(2) {
+        say_length(sheet);
+    }
 }

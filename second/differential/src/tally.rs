@@ -3,7 +3,7 @@
 
 use crate::call::{Answer, Call, CALLS};
 
-const REFUSALS: usize = 15;
+const REFUSALS: usize = 16;
 const COUNTS: usize = 29;
 const FIGURES: usize = 57;
 const LOOSE: usize = 28;

@@ -1,5 +1,5 @@
-//! The cases of document 01, "Trial cuts", with the last byte of document 02, P2, and the L of P3, the
-//! example of `cut`, and the orders of document 02, P1, on both implementations.
+//! The cases of document 01, "Trial cuts", with the first byte of document 02, P4, the last byte of P2
+//! and the L of P3, the example of `cut`, and the orders of document 02, P1, on both implementations.
 
 use std::fmt::Debug;
 
@@ -20,27 +20,34 @@ const CUT_EXAMPLE: Matrix = [
     [1, -1, 1, 0, 0, 1],
 ];
 
-const IDENTITY_SHEET: &[u8] = &[1, 2, 3, 4, 5, 6, 0];
-const MINUS_IDENTITY_SHEET: &[u8] = &[1, 2, 3, 4, 5, 6, 1];
-const C_SHEET: &[u8] = &[3, 1, 2, 3, 4, 5, 6, 0];
-const CZ_SHEET: &[u8] = &[2, 129, 6, 5, 132, 131, 0];
-const CHC_SHEET: &[u8] = &[3, 13, 3, 130, 1, 4, 5, 6, 0];
-const MINUS_CHC_SHEET: &[u8] = &[3, 13, 3, 130, 1, 4, 5, 6, 1];
+const IDENTITY_SHEET: &[u8] = &[64, 1, 2, 3, 4, 5, 6, 0];
+const MINUS_IDENTITY_SHEET: &[u8] = &[64, 1, 2, 3, 4, 5, 6, 1];
+const C_SHEET: &[u8] = &[65, 3, 1, 2, 3, 4, 5, 6, 0];
+const CZ_SHEET: &[u8] = &[64, 2, 129, 6, 5, 132, 131, 0];
+const CHC_SHEET: &[u8] = &[66, 3, 13, 3, 130, 1, 4, 5, 6, 0];
+const MINUS_CHC_SHEET: &[u8] = &[66, 3, 13, 3, 130, 1, 4, 5, 6, 1];
 
 /// Sheets and the refusals that they earn.
-const REFUSED_SHEETS: [(&[u8], u8); 12] = [
+const REFUSED_SHEETS: [(&[u8], u8); 19] = [
     (&[1, 2, 3, 4, 5, 6], 10),
-    (&[16, 1, 2, 3, 4, 5, 6, 2], 11),
-    (&[1, 2, 3, 4, 5, 128, 2], 11),
-    (&[129, 2, 3, 4, 5, 6, 0], 12),
-    (&[1, 2, 3, 4, 6, 5, 2], 12),
-    (&[1, 2, 3, 4, 5, 6, 2], 15),
-    (&[1, 2, 3, 4, 5, 6, 255], 15),
-    (&[129, 130, 131, 132, 133, 134, 0], 15),
-    (&[129, 130, 131, 132, 133, 134, 1], 15),
-    (&[3, 3, 1, 2, 3, 4, 5, 6, 2], 15),
-    (&[13, 3, 1, 2, 3, 4, 5, 6, 0], 13),
-    (&[3, 3, 1, 2, 3, 4, 5, 6, 0], 13),
+    (&[1, 2, 3, 4, 5, 6, 0], 10),
+    (&[63, 1, 2, 3, 4, 5, 6], 10),
+    (&[3, 13, 3, 130, 1, 4, 5, 6], 16),
+    (&[3, 13, 3, 130, 1, 4, 5, 6, 0], 16),
+    (&[65, 1, 2, 3, 4, 5, 6, 0], 16),
+    (&[8, 1, 2, 3, 4, 5, 6, 0], 16),
+    (&[65, 0, 2, 3, 4, 5, 6, 2], 16),
+    (&[65, 16, 1, 2, 3, 4, 5, 6, 2], 11),
+    (&[64, 1, 2, 3, 4, 5, 128, 2], 11),
+    (&[64, 129, 2, 3, 4, 5, 6, 0], 12),
+    (&[64, 1, 2, 3, 4, 6, 5, 2], 12),
+    (&[64, 1, 2, 3, 4, 5, 6, 2], 15),
+    (&[64, 1, 2, 3, 4, 5, 6, 255], 15),
+    (&[64, 129, 130, 131, 132, 133, 134, 0], 15),
+    (&[64, 129, 130, 131, 132, 133, 134, 1], 15),
+    (&[66, 3, 3, 1, 2, 3, 4, 5, 6, 2], 15),
+    (&[66, 13, 3, 1, 2, 3, 4, 5, 6, 0], 13),
+    (&[66, 3, 3, 1, 2, 3, 4, 5, 6, 0], 13),
 ];
 
 /// t, p and the states to order.

@@ -23,7 +23,7 @@
 //! let mut sheet = [0; dimfrets::MAX_SHEET];
 //! let cuts = dimfrets::operator_to_sheet(&file, &mut sheet)?;
 //! assert_eq!((cuts.count, cuts.loose), (2, 1));
-//! assert_eq!(sheet[..9], [3, 13, 3, 130, 1, 4, 5, 6, 0]);
+//! assert_eq!(sheet[..10], [66, 3, 13, 3, 130, 1, 4, 5, 6, 0]);
 //!
 //! let mut list = vec![0; dimfrets::GATES_BUFFER];
 //! let written = dimfrets::operator_to_gates(&file, &mut list)?;
@@ -44,7 +44,7 @@ pub use refusal::Refusal;
 /// The length of an operator file.
 pub const OPERATOR_BYTES: usize = 73;
 /// The length of the longest sheet.
-pub const MAX_SHEET: usize = 35;
+pub const MAX_SHEET: usize = 36;
 /// The length of the longest gate list that is read.
 pub const MAX_LETTERS: usize = 8192;
 /// The length of a buffer that holds any gate list written.
@@ -78,9 +78,10 @@ extern "C" {
 }
 
 /// Cuts an operator file into its sheet and answers the count t and L, which is below t, or 0 where t
-/// is. The sheet has t + 7 bytes: t generator numbers, six columns of a Clifford whose column 1 is
-/// positive, and a last byte, 0 for their product and 1 for its negative. Two operators agree up to
-/// sign exactly when their sheets agree before the last byte.
+/// is. The sheet has t + 8 bytes: 64 + t, t generator numbers, six columns of a Clifford whose column 1
+/// is positive, and a last byte, 0 for their product and 1 for its negative. Two operators agree up to
+/// sign exactly when their sheets agree before the last byte. Sheets laid end to end can be told apart:
+/// each is as long as its first byte less 56.
 ///
 /// Refuses with [`Refusal::FileLength`] to [`Refusal::BufferTooShort`], in their order.
 pub fn operator_to_sheet(file: &[u8], out: &mut [u8]) -> Result<Cuts, Refusal> {
@@ -104,8 +105,9 @@ pub fn gates_to_operator(list: &[u8], out: &mut [u8]) -> Result<u8, Refusal> {
 
 /// Multiplies a sheet, its sign included, writes the operator file, 73 bytes, and answers the count.
 ///
-/// Refuses with [`Refusal::SheetLength`], [`Refusal::SheetByte`], [`Refusal::NoClifford`],
-/// [`Refusal::SheetSign`], [`Refusal::OtherSheet`] or [`Refusal::BufferTooShort`], in this order.
+/// Refuses with [`Refusal::SheetLength`], [`Refusal::SheetCount`], [`Refusal::SheetByte`],
+/// [`Refusal::NoClifford`], [`Refusal::SheetSign`], [`Refusal::OtherSheet`] or
+/// [`Refusal::BufferTooShort`], in this order.
 pub fn sheet_to_operator(sheet: &[u8], out: &mut [u8]) -> Result<u8, Refusal> {
     count(run(dimfrets_sheet_to_operator, sheet, out))
 }
@@ -213,12 +215,13 @@ mod tests {
         assert_eq!(count(28 << 8), Ok(28));
         assert_eq!(count(14), Err(Refusal::OrderOutOfRange));
         assert_eq!(count(15), Err(Refusal::SheetSign));
+        assert_eq!(count(16), Err(Refusal::SheetCount));
     }
 
     #[test]
     #[should_panic(expected = "known number")]
     fn a_refusal_has_a_known_number() {
-        let _ = count(16);
+        let _ = count(17);
     }
 
     #[test]
@@ -272,22 +275,38 @@ mod tests {
     #[test]
     fn a_sheet_has_a_sign() {
         let mut file = [0; OPERATOR_BYTES];
-        let sheet = [1, 2, 3, 4, 5, 6, 1];
+        let sheet = [64, 1, 2, 3, 4, 5, 6, 1];
         assert_eq!(sheet_to_operator(&sheet, &mut file), Ok(0));
         assert_eq!(file[..3], [0, 255, 255]);
         let mut back = [9; MAX_SHEET];
         let none = Cuts { count: 0, loose: 0 };
         assert_eq!(operator_to_sheet(&file, &mut back), Ok(none));
-        assert_eq!(back[..8], [1, 2, 3, 4, 5, 6, 1, 9]);
+        assert_eq!(back[..9], [64, 1, 2, 3, 4, 5, 6, 1, 9]);
         assert_eq!(
-            operator_to_sheet(&file, &mut back[..6]),
+            operator_to_sheet(&file, &mut back[..7]),
             Err(Refusal::BufferTooShort)
         );
-        for sheet in [[1, 2, 3, 4, 5, 6, 2], [129, 130, 131, 132, 133, 134, 0]] {
+        for sheet in [
+            [64, 1, 2, 3, 4, 5, 6, 2],
+            [64, 129, 130, 131, 132, 133, 134, 0],
+        ] {
             assert_eq!(
                 sheet_to_operator(&sheet, &mut file),
                 Err(Refusal::SheetSign)
             );
+        }
+    }
+
+    #[test]
+    fn a_sheet_says_its_count() {
+        let mut file = [9; OPERATOR_BYTES];
+        for first in (0..=255).filter(|&first| first != 64) {
+            let sheet = [first, 1, 2, 3, 4, 5, 6, 0];
+            assert_eq!(
+                sheet_to_operator(&sheet, &mut file),
+                Err(Refusal::SheetCount)
+            );
+            assert_eq!(file, [9; OPERATOR_BYTES]);
         }
     }
 

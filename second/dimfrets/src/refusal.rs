@@ -21,11 +21,12 @@ pub enum Refusal {
     OtherSheet = 13,
     OrderOutOfRange = 14,
     SheetSign = 15,
+    SheetCount = 16,
 }
 
 impl Refusal {
     /// All refusals, in the order of their numbers.
-    pub const ALL: [Refusal; 15] = [
+    pub const ALL: [Refusal; 16] = [
         Refusal::FileLength,
         Refusal::ExponentTooLarge,
         Refusal::EntryTooLarge,
@@ -41,14 +42,15 @@ impl Refusal {
         Refusal::OtherSheet,
         Refusal::OrderOutOfRange,
         Refusal::SheetSign,
+        Refusal::SheetCount,
     ];
 
-    /// The number in documents 01 and 02, 1 to 15.
+    /// The number in documents 01 and 02, 1 to 16.
     pub fn number(self) -> u8 {
         self as u8
     }
 
-    /// The refusal with a number of 1 to 15.
+    /// The refusal with a number of 1 to 16.
     pub fn from_number(number: u8) -> Option<Refusal> {
         let index = usize::from(number).checked_sub(1)?;
         Refusal::ALL.get(index).copied()
@@ -67,12 +69,13 @@ impl Refusal {
             Refusal::BeginningTooDeep => {
                 "the product of a beginning of the gate list has a least exponent above 28"
             }
-            Refusal::SheetLength => "the sheet has fewer than 7 or more than 35 bytes",
+            Refusal::SheetLength => "the sheet has fewer than 8 or more than 36 bytes",
             Refusal::SheetByte => "a byte of the sheet is no generator or no column",
             Refusal::NoClifford => "the six columns of the sheet are no Clifford",
             Refusal::OtherSheet => "cutting the sheet's operator gives another sheet",
             Refusal::OrderOutOfRange => "t is above 28 or the spoilage above 1000 thousandths",
             Refusal::SheetSign => "the last byte of the sheet is above 1, or column 1 is negative",
+            Refusal::SheetCount => "the first byte of the sheet is not its length plus 56",
         }
     }
 }
@@ -96,6 +99,6 @@ mod tests {
             assert_eq!(Refusal::from_number(number), Some(refusal));
         }
         assert_eq!(Refusal::from_number(0), None);
-        assert_eq!(Refusal::from_number(16), None);
+        assert_eq!(Refusal::from_number(17), None);
     }
 }

@@ -1,5 +1,5 @@
-//! The numbers of the refusals, in the order of document 01, "What can be turned away"; 15, of
-//! document 02, P2, follows 12.
+//! The numbers of the refusals, in the order of document 01, "What can be turned away"; of document
+//! 02, 16 follows 10 (P4), and 15 follows 12 (P2).
 
 /// An operator file whose length is not 73.
 pub const FILE_LENGTH: u8 = 1;
@@ -19,8 +19,10 @@ pub const TOO_MANY_LETTERS: u8 = 7;
 pub const UNKNOWN_LETTER: u8 = 8;
 /// A beginning of a gate list whose product has a least exponent above 28.
 pub const BEGINNING_TOO_DEEP: u8 = 9;
-/// A sheet of fewer than 7 or more than 35 bytes.
+/// A sheet of fewer than 8 or more than 36 bytes.
 pub const SHEET_LENGTH: u8 = 10;
+/// A first byte that is not the length of the sheet plus 56.
+pub const SHEET_COUNT: u8 = 16;
 /// A generator byte outside 1 to 15, or a column byte outside 1 to 6 and 129 to 134.
 pub const SHEET_BYTE: u8 = 11;
 /// Six columns that are no Clifford.

@@ -1,5 +1,5 @@
 //! Sheets: the rule of cutting, by document 01, "The rule of cutting", and document 02, P3, and their
-//! bytes, by document 02, P2.
+//! bytes, by document 02, P2 and P4.
 
 use crate::generator::{GENERATORS, GENERATOR_COUNT};
 use crate::matrix::{
@@ -8,11 +8,17 @@ use crate::matrix::{
 use crate::operator::{Operator, MAX_EXPONENT};
 use crate::refusal;
 
-/// The shortest sheet, that of a Clifford: six columns and the last byte.
-pub const MIN_SHEET: usize = SIZE + 1;
+/// The shortest sheet, that of a Clifford: the first byte, six columns and the last byte.
+pub const MIN_SHEET: usize = SIZE + 2;
 
 /// The longest sheet.
 pub const MAX_SHEET: usize = MAX_EXPONENT as usize + MIN_SHEET;
+
+/// The first byte is this much more than the count …
+pub const ABOVE_COUNT: u8 = 64;
+
+/// … and this much more than the length.
+pub const ABOVE_LENGTH: usize = 56;
 
 /// A column byte for −1 is this much more than the row.
 pub const MINUS: u8 = 128;
@@ -58,7 +64,10 @@ impl Sheet {
         if !(MIN_SHEET..=MAX_SHEET).contains(&bytes.len()) {
             return Err(refusal::SHEET_LENGTH);
         }
-        let (last, bytes) = bytes.split_last().expect("at least seven bytes");
+        if usize::from(bytes[0]) != bytes.len() + ABOVE_LENGTH {
+            return Err(refusal::SHEET_COUNT);
+        }
+        let (last, bytes) = bytes[1..].split_last().expect("at least seven bytes");
         let (generators, columns) = bytes.split_last_chunk().expect("at least six bytes");
         if !generators.iter().all(is_generator) || !columns.iter().all(is_column) {
             return Err(refusal::SHEET_BYTE);
@@ -79,8 +88,10 @@ impl Sheet {
 
     /// Writes the bytes of the sheet over the whole of `out`, which has its length.
     pub fn write(&self, out: &mut [u8]) {
-        let (last, bytes) = out.split_last_mut().expect("at least seven bytes");
+        let (first, bytes) = out.split_first_mut().expect("at least eight bytes");
+        let (last, bytes) = bytes.split_last_mut().expect("at least seven bytes");
         let (generators, columns) = bytes.split_at_mut(self.generators.len());
+        *first = ABOVE_COUNT + self.count();
         generators.copy_from_slice(&self.generators);
         columns.copy_from_slice(&self.columns);
         *last = u8::from(self.negative);

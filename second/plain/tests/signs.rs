@@ -93,7 +93,7 @@ fn a_clifford_says_the_sign_of_its_column_1() {
     for operator in cliffords() {
         let column_1: i64 = operator.matrix.iter().map(|row| row[0]).sum();
         let (beginning, last) = sheet(&operator);
-        assert!(beginning[0] < MINUS);
+        assert!(beginning[1] < MINUS);
         assert_eq!(last, if column_1 < 0 { 1 } else { 0 });
     }
 }

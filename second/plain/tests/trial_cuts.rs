@@ -1,5 +1,5 @@
-//! The cases of document 01, "Trial cuts", with the last byte of document 02, P2, and the L of P3, the
-//! example of `cut`, in both directions, and the orders of document 02, P1.
+//! The cases of document 01, "Trial cuts", with the first byte of document 02, P4, the last byte of P2
+//! and the L of P3, the example of `cut`, in both directions, and the orders of document 02, P1.
 
 use plain::matrix::{scale, Matrix, IDENTITY};
 use plain::operator::{Operator, OPERATOR_BYTES};
@@ -20,11 +20,11 @@ const CUT_EXAMPLE: Matrix = [
     [1, -1, 1, 0, 0, 1],
 ];
 
-const CUT_EXAMPLE_SHEET: &[u8] = &[3, 13, 3, 130, 1, 4, 5, 6, 0];
-const IDENTITY_SHEET: &[u8] = &[1, 2, 3, 4, 5, 6, 0];
-const MINUS_IDENTITY_SHEET: &[u8] = &[1, 2, 3, 4, 5, 6, 1];
-const C_SHEET: &[u8] = &[3, 1, 2, 3, 4, 5, 6, 0];
-const CZ_SHEET: &[u8] = &[2, 129, 6, 5, 132, 131, 0];
+const CUT_EXAMPLE_SHEET: &[u8] = &[66, 3, 13, 3, 130, 1, 4, 5, 6, 0];
+const IDENTITY_SHEET: &[u8] = &[64, 1, 2, 3, 4, 5, 6, 0];
+const MINUS_IDENTITY_SHEET: &[u8] = &[64, 1, 2, 3, 4, 5, 6, 1];
+const C_SHEET: &[u8] = &[65, 3, 1, 2, 3, 4, 5, 6, 0];
+const CZ_SHEET: &[u8] = &[64, 2, 129, 6, 5, 132, 131, 0];
 
 fn file(matrix: Matrix, exponent: u8) -> [u8; OPERATOR_BYTES] {
     let mut file = [0; OPERATOR_BYTES];
@@ -41,7 +41,7 @@ fn file_of_list(list: &[u8]) -> [u8; OPERATOR_BYTES] {
 
 /// The operator has this sheet and this L, the sheet this operator, and its gate list leads back.
 fn assert_cut(file: &[u8], least: &[u8], sheet: &[u8], loose: u8) {
-    let count = sheet.len() as u8 - 7;
+    let count = sheet.len() as u8 - 8;
     let cuts = Cuts { count, loose };
     let mut out = [UNTOUCHED; 40];
     assert_eq!(operator_to_sheet(file, &mut out), Ok(cuts));
@@ -143,36 +143,59 @@ fn refused_operators() {
 
 #[test]
 fn refused_sheets() {
-    assert_sheet_refused(&[13, 3, 1, 2, 3, 4, 5, 6, 0], 13);
-    assert_sheet_refused(&[3, 3, 1, 2, 3, 4, 5, 6, 0], 13);
-    assert_sheet_refused(&[3, 3, 1, 2, 3, 4, 5, 6, 1], 13);
+    assert_sheet_refused(&[66, 13, 3, 1, 2, 3, 4, 5, 6, 0], 13);
+    assert_sheet_refused(&[66, 3, 3, 1, 2, 3, 4, 5, 6, 0], 13);
+    assert_sheet_refused(&[66, 3, 3, 1, 2, 3, 4, 5, 6, 1], 13);
+    assert_sheet_refused(&[], 10);
+    assert_sheet_refused(&[63, 1, 2, 3, 4, 5, 6], 10);
+    assert_sheet_refused(&[64, 1, 1, 1, 1, 1, 1, 0], 12);
+    assert_sheet_refused(&[&[92], &[1; 35][..]].concat(), 12);
+    assert_sheet_refused(&[&[93], &[1; 36][..]].concat(), 10);
+    assert_sheet_refused(&[65, 16, 1, 1, 3, 4, 5, 6, 0], 11);
+    assert_sheet_refused(&[65, 0, 1, 2, 3, 4, 5, 6, 0], 11);
+    assert_sheet_refused(&[64, 1, 2, 3, 4, 5, 128, 0], 11);
+    assert_sheet_refused(&[66, 3, 3, 1, 1, 3, 4, 5, 6, 0], 12);
+    assert_sheet_refused(&[64, 1, 2, 3, 4, 6, 5, 0], 12);
+    assert_sheet_refused(&[64, 1, 2, 3, 4, 5, 134, 0], 12);
+}
+
+#[test]
+fn refused_counts() {
+    for first in (0..=255).filter(|&first| first != 64) {
+        assert_sheet_refused(&[first, 1, 2, 3, 4, 5, 6, 0], 16);
+    }
+    // Without the first byte, and without the last one too.
+    assert_sheet_refused(&[3, 13, 3, 130, 1, 4, 5, 6, 0], 16);
+    assert_sheet_refused(&[3, 13, 3, 130, 1, 4, 5, 6], 16);
+    assert_sheet_refused(&[1, 2, 3, 4, 5, 6, 0], 10);
     assert_sheet_refused(&[1, 2, 3, 4, 5, 6], 10);
-    assert_sheet_refused(&[1; 7], 12);
-    assert_sheet_refused(&[1; 35], 12);
-    assert_sheet_refused(&[1; 36], 10);
-    assert_sheet_refused(&[16, 1, 1, 3, 4, 5, 6, 0], 11);
-    assert_sheet_refused(&[0, 1, 2, 3, 4, 5, 6, 0], 11);
-    assert_sheet_refused(&[1, 2, 3, 4, 5, 128, 0], 11);
-    assert_sheet_refused(&[3, 3, 1, 1, 3, 4, 5, 6, 0], 12);
-    assert_sheet_refused(&[1, 2, 3, 4, 6, 5, 0], 12);
-    assert_sheet_refused(&[1, 2, 3, 4, 5, 134, 0], 12);
+    // 10 comes first, 11, 12, 15 and 13 later.
+    assert_sheet_refused(&[1; 7], 10);
+    assert_sheet_refused(&[1; 8], 16);
+    assert_sheet_refused(&[1; 36], 16);
+    assert_sheet_refused(&[1; 37], 10);
+    assert_sheet_refused(&[66, 16, 1, 2, 3, 4, 5, 6, 0], 16);
+    assert_sheet_refused(&[65, 1, 2, 3, 4, 5, 128, 0], 16);
+    assert_sheet_refused(&[65, 1, 2, 3, 4, 6, 5, 0], 16);
+    assert_sheet_refused(&[65, 1, 2, 3, 4, 5, 6, 2], 16);
+    assert_sheet_refused(&[65, 3, 3, 1, 2, 3, 4, 5, 6, 0], 16);
 }
 
 #[test]
 fn refused_signs() {
     for last in 2..=255 {
-        assert_sheet_refused(&[1, 2, 3, 4, 5, 6, last], 15);
+        assert_sheet_refused(&[64, 1, 2, 3, 4, 5, 6, last], 15);
     }
-    assert_sheet_refused(&[129, 130, 131, 132, 133, 134, 0], 15);
-    assert_sheet_refused(&[129, 130, 131, 132, 133, 134, 1], 15);
-    assert_sheet_refused(&[129, 130, 3, 4, 5, 6, 0], 15);
+    assert_sheet_refused(&[64, 129, 130, 131, 132, 133, 134, 0], 15);
+    assert_sheet_refused(&[64, 129, 130, 131, 132, 133, 134, 1], 15);
+    assert_sheet_refused(&[64, 129, 130, 3, 4, 5, 6, 0], 15);
     // 11 and 12 come first, 13 later.
-    assert_sheet_refused(&[16, 1, 2, 3, 4, 5, 6, 2], 11);
-    assert_sheet_refused(&[129, 130, 131, 132, 133, 128, 0], 11);
-    assert_sheet_refused(&[1, 2, 3, 4, 6, 5, 2], 12);
-    assert_sheet_refused(&[129, 2, 3, 4, 5, 6, 0], 12);
-    assert_sheet_refused(&[3, 3, 1, 2, 3, 4, 5, 6, 2], 15);
-    assert_sheet_refused(&[3, 3, 129, 130, 3, 4, 5, 6, 1], 15);
+    assert_sheet_refused(&[65, 16, 1, 2, 3, 4, 5, 6, 2], 11);
+    assert_sheet_refused(&[64, 129, 130, 131, 132, 133, 128, 0], 11);
+    assert_sheet_refused(&[64, 1, 2, 3, 4, 6, 5, 2], 12);
+    assert_sheet_refused(&[64, 129, 2, 3, 4, 5, 6, 0], 12);
+    assert_sheet_refused(&[66, 3, 3, 1, 2, 3, 4, 5, 6, 2], 15);
+    assert_sheet_refused(&[66, 3, 3, 129, 130, 3, 4, 5, 6, 1], 15);
 }
 
 #[test]
@@ -194,19 +217,23 @@ fn refused_gate_lists() {
 #[test]
 fn short_buffers_come_last() {
     let example = file(CUT_EXAMPLE, 2);
-    assert_eq!(operator_to_sheet(&example, &mut [0; 8]), Err(6));
+    assert_eq!(operator_to_sheet(&example, &mut [0; 9]), Err(6));
     let cuts = Cuts { count: 2, loose: 1 };
-    assert_eq!(operator_to_sheet(&example, &mut [0; 9]), Ok(cuts));
+    assert_eq!(operator_to_sheet(&example, &mut [0; 10]), Ok(cuts));
     assert_eq!(operator_to_gates(&example, &mut [0; 767]), Err(6));
     assert!(operator_to_gates(&example, &mut [0; 768]).is_ok());
     assert_eq!(gates_to_operator(b"CHC", &mut [0; 72]), Err(6));
     assert_eq!(gates_to_operator(b"CHC?", &mut []), Err(8));
     assert_eq!(sheet_to_operator(CUT_EXAMPLE_SHEET, &mut [0; 72]), Err(6));
     assert_eq!(
-        sheet_to_operator(&[3, 3, 1, 2, 3, 4, 5, 6, 0], &mut []),
+        sheet_to_operator(&[66, 3, 3, 1, 2, 3, 4, 5, 6, 0], &mut []),
         Err(13)
     );
-    assert_eq!(sheet_to_operator(&[1, 2, 3, 4, 5, 6, 2], &mut []), Err(15));
+    assert_eq!(
+        sheet_to_operator(&[64, 1, 2, 3, 4, 5, 6, 2], &mut []),
+        Err(15)
+    );
+    assert_eq!(sheet_to_operator(&[1; 8], &mut []), Err(16));
     assert_eq!(operator_to_sheet(&file(IDENTITY, 1), &mut []), Err(4));
 }
 

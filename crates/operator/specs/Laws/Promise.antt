@@ -23,6 +23,7 @@ use Rattle.gate_list.specs.List.{gateList}
 use Rattle.gate_list.specs.Laws.List.{listOf, list-of}
 use Rattle.sheet_bytes.specs.Bytes.{shortest, sheetBytes, sheet, sheetOperator}
 use Rattle.sheet_bytes.specs.Laws.Sheet.{length-sheet, sheet-back}
+use Rattle.sheet_bytes.specs.Laws.Count.{sheet-first}
 use Rattle.operator.specs.declared.Cuts.{Cuts}
 use Rattle.operator.specs.declared.Cuts.the-variants.{Taken, Refused}
 use Rattle.operator.specs.declared.Listed as listed
@@ -83,7 +84,15 @@ ready b r c e =
 
 module _ (b old : List ℕ) (r : Cut) (c : CutOf b r) where
   sheet-as : {new : List ℕ} {a : Cuts} → a ≡ sheetAnswer b (length old) → new ≡ sheetBuffer b old → ExactlyRefused b (refusalOf a) → SheetPromise b old new a
-  sheet-as p q x = record { answer = p; buffer = q; multiplies = λ z. sheet-multiplies b z; least = λ z. file-cutting b z .least; exactly = x }
+  sheet-as p q x = record {
+    answer = p;
+    buffer = q;
+    multiplies = λ z. sheet-multiplies b z;
+    least = λ z. file-cutting b z .least;
+    exact = λ z. sheet-length b z;
+    stated = λ z. sheet-first (fileExponent b) (fileMatrix b) (accepted b z .entries .orthogonal);
+    exactly = x;
+  }
 
   -- an accepted file's answers: no room, and none
   six : fileRefusal b ≡ 0 → ExactlyRefused b 6

@@ -2,12 +2,12 @@
 use mathlib.Core.Path.{_≡_, refl, sym, ap, ap₂, _∙_, subst}
 use mathlib.Core.Bool.{Bool, true, false, cond}
 use mathlib.Core.List.{List}
-use Prim.Native.Nat.{ℕ, _-_, _≤_, _<_}
+use Prim.Native.Nat.{ℕ, _+_, _-_, _≤_, _<_}
 use native.Mathlib.Omega.{arith}
 use lib.Dec.{ltb}
-use lib.ListN.{length, getD}
+use lib.ListN.{length, getD, drop}
 use lib.Seq.{getD-take}
-use borrow.Author.Tests.{le-leb, le-ltb}
+use borrow.Author.Tests.{eq-eqb, le-leb, le-ltb}
 use Rattle.matrix.specs.List.{sameList}
 use Rattle.matrix.specs.Matrix.{entry, listed}
 use Rattle.matrix.specs.Operator.{operator, Proper}
@@ -32,6 +32,7 @@ use Rattle.sheet_bytes.specs.Bytes.{shortest, longest, signByte, writtenColumns
 use Rattle.sheet_bytes.specs.Sheet.{isNumber, areNumbers, isClifford, hasWrongSign, sheetRefusal, sheetLeast}
 use Rattle.sheet_bytes.specs.Laws.Bytes.{numbers-back, columns-back, sign-back, positive-first}
 use Rattle.sheet_bytes.specs.Laws.Sheet.{columnsLeft, left-permutation, same-sheet}
+use Rattle.sheet_bytes.specs.Laws.Count.{sheet-counted}
 use Rattle.sheet.specs.Promise.{sheetFile}
 use Rattle.sheet.specs.Laws.Sheet.{Accepted, sheet-orthogonal, sheet-same-least, sheet-small, least-orthogonal-sheet, sheet-long, sheet-file}
 
@@ -59,13 +60,14 @@ module _ (b : List ℕ) (z : fileRefusal b ≡ 0) where
   numbers-pass : areNumbers (fileSheet b) ≡ true
   unfolding sheet
   numbers-pass =
-      every-complete (length (fileSheet b) - shortest) (λ n. isNumber (getD (fileSheet b) n 0))
+      every-complete (length (fileSheet b) - shortest) (λ n. isNumber (getD (drop 1 (fileSheet b)) n 0))
       (λ i h.
       let t = file-cutting b z .exact in
       let l = sheet-length b z in
-      let g : (1 ≤ getD (fileSheet b) i 0) × (getD (fileSheet b) i 0 ≤ 15) =
-      subst (λ x. (1 ≤ x) × (x ≤ 15)) (ap (λ x. getD x i 0) (sym (numbers-back (fileNumbers b) (fileColumns b) (columns-left .long))) ∙ getD-take (length (fileSheet b) - shortest) (fileSheet b) i 0 h) (file-cutting b z .numbers i (omega arith)) in
-      rw (le-leb 1 (getD (fileSheet b) i 0) (g .0), le-leb (getD (fileSheet b) i 0) 15 (g .1)))
+      let x = drop 1 (fileSheet b) in
+      let g : (1 ≤ getD x i 0) × (getD x i 0 ≤ 15) =
+      subst (λ y. (1 ≤ y) × (y ≤ 15)) (ap (λ y. getD y i 0) (sym (numbers-back (fileNumbers b) (fileColumns b) (columns-left .long))) ∙ getD-take (length (fileSheet b) - shortest) x i 0 h) (file-cutting b z .numbers i (omega arith)) in
+      rw (le-leb 1 (getD x i 0) (g .0), le-leb (getD x i 0) 15 (g .1)))
 
   clifford-passes : isClifford (writtenColumns (fileColumns b)) ≡ true
   clifford-passes =
@@ -102,6 +104,7 @@ module _ (b : List ℕ) (z : fileRefusal b ≡ 0) where
       rw (
         le-ltb (length (fileSheet b)) shortest (omega arith),
         le-ltb longest (length (fileSheet b)) (omega arith),
+        eq-eqb (getD (fileSheet b) 0 0) (length (fileSheet b) + 56) (sheet-counted (fileExponent b) (fileMatrix b) (file.accepted b z .entries .orthogonal)),
         numbers-pass,
         same,
         columns,

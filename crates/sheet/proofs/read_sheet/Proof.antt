@@ -5,9 +5,10 @@ use mathlib.Core.Logic.{_≢_}
 use Prim.Native.Nat.{ℕ, _-_}
 use native.Mathlib.Omega.{arith}
 use borrow.Author.Needs.{needs}
+use borrow.Rule.Slice.PartAt.{part-to-end}
 use denote.Ref.{now}
 use lib.IntN.{ℤ}
-use lib.ListN.{length}
+use lib.ListN.{length, take}
 use Rattle.matrix.specs.Matrix.{entry, listed}
 use Rattle.matrix.specs.Operator.{operator, Orthogonal}
 use Rattle.clifford.specs.Columns.{columnsMatrix, signed}
@@ -16,7 +17,7 @@ use Rattle.file.specs.declared.Read.{Read}
 use Rattle.sheet_bytes.specs.Bytes.{shortest, sheetNumbers, sheetColumns, sheetSign, sheetOperator}
 use Rattle.sheet_bytes.specs.Sheet.{bytesRefusal, sheetRefusal, sheetLeast}
 use Rattle.sheet.specs.Promise.{CutAgain, SheetRead}
-use Rattle.sheet.specs.Laws.Sheet.{InForm, in-form, in-form-refusal, out-of-form, sheet-exponent, signed-columns, sheet-matrix, sheet-orthogonal, same-again}
+use Rattle.sheet.specs.Laws.Sheet.{InForm, in-form, in-form-refusal, out-of-form, behind-first, sheet-exponent, signed-columns, sheet-matrix, sheet-orthogonal, same-again}
 use Rattle.sheet.proofs.read_sheet.Statement.{statement}
 use Rattle.sheet.proofs.read_sheet.Tie as tie
 
@@ -45,6 +46,12 @@ module _ (s : List ℕ) (f : InForm s) (bs : List ℕ) (b : bs ≡ signed (sheet
 formed : (c : tie.Else1) → InForm (now (c .before .before .before .args .bytes))
 formed c = in-form _ 0 (sym (c .before .bytes-refusal .ensures) ∙ c .if1 .left)
 
+-- the slice lent for the generators is the bytes behind the first
+product : (c : tie.After-multiplied) → c .multiplied .result ≡ listed (normalForm (sheetNumbers (now (c .before .before .before .before .before .before .before .args .bytes))) (columnsMatrix (c .before .before .columns-from .result)) .matrix)
+product c =
+    let s = now (c .before .before .before .before .before .before .before .args .bytes) in
+    c .multiplied .ensures ∙ ap (λ x. listed (normalForm (take (length s - shortest) x) (columnsMatrix (c .before .before .columns-from .result)) .matrix)) (part-to-end s 1)
+
 bytes-refusal-requires : tie.Need-bytes-refusal-requires
 bytes-refusal-requires c κs = search needs
 
@@ -62,25 +69,40 @@ sub-count c = let f = formed c in omega arith
 sub-columns-from : tie.Need-sub-columns-from
 sub-columns-from c = let f = formed c in omega arith
 
+sub-columns-from-2 : tie.Need-sub-columns-from-2
+sub-columns-from-2 c = let f = formed c in omega arith
+
 shared-slice-read-columns-from : tie.Need-shared-slice-read-columns-from
 shared-slice-read-columns-from c = let f = formed (c .before) in omega arith
 
 columns-from-requires : tie.Need-columns-from-requires
 columns-from-requires c κs = let f = formed (c .before) in omega arith
 
+sub-multiplied : tie.Need-sub-multiplied
+sub-multiplied c = let f = formed (c .before .before) in omega arith
+
+part-multiplied-start : tie.Need-part-multiplied-start
+part-multiplied-start c = let f = formed (c .before .before) in omega arith
+
+part-multiplied-end : tie.Need-part-multiplied-end
+part-multiplied-end c = search needs
+
 multiplied-requires : tie.Need-multiplied-requires
-multiplied-requires c κs = let f = formed (c .before .before) in (omega arith, omega arith, f .numbers, rw (c .columns-from .ensures) (signed-columns _ f))
+multiplied-requires c κs =
+    let f = formed (c .before .before .before) in
+    let s = now (c .before .before .before .before .before .before .args .bytes) in
+    (omega arith, rw (part-to-end s 1) (behind-first s f), rw (part-to-end s 1) (f .numbers), rw (c .before .columns-from .ensures) (signed-columns s f))
 
 cast-cut-again : tie.Need-cast-cut-again
-cast-cut-again c = let f = formed (c .before .before .before) in omega arith
+cast-cut-again c = let f = formed (c .before .before .before .before) in omega arith
 
 cut-again-requires : tie.Need-cut-again-requires
 cut-again-requires c κs =
-    let f = formed (c .before .before .before) in
-    (omega arith, orthogonal _ f _ (c .before .columns-from .ensures) _ (c .multiplied .ensures))
+    let f = formed (c .before .before .before .before) in
+    (omega arith, orthogonal _ f _ (c .before .before .columns-from .ensures) _ (product c))
 
 returns-2 : tie.Need-returns-2
-returns-2 c = taken-in _ (formed (c .before .before .before .before)) _ (c .before .before .columns-from .ensures) _ (c .before .multiplied .ensures) _ (c .cut-again .ensures)
+returns-2 c = taken-in _ (formed (c .before .before .before .before .before)) _ (c .before .before .before .columns-from .ensures) _ (product (c .before)) _ (c .cut-again .ensures)
 
 pub read-sheet-spec : {M : Type 1} → statement M
 read-sheet-spec =
@@ -91,8 +113,12 @@ read-sheet-spec =
     returns
     sub-count
     sub-columns-from
+    sub-columns-from-2
     shared-slice-read-columns-from
     columns-from-requires
+    sub-multiplied
+    part-multiplied-start
+    part-multiplied-end
     multiplied-requires
     cast-cut-again
     cut-again-requires

@@ -14,7 +14,7 @@ use Rattle.file.specs.declared.Read.{Read}
 use Rattle.sheet_bytes.specs.Bytes.{sheetOperator}
 use Rattle.sheet_bytes.specs.Sheet.{sheetRefusal, sheetLeast}
 use Rattle.sheet.specs.Promise.{SheetRead, operatorAnswer, operatorBuffer, OperatorPromise}
-use Rattle.sheet.specs.Laws.Sheet.{accepted, sheet-same-least, sheet-least, sheet-exact, sheet-small, least-orthogonal-sheet, sheet-file}
+use Rattle.sheet.specs.Laws.Sheet.{accepted, sheet-same-least, sheet-least, sheet-exact, sheet-stated, sheet-small, least-orthogonal-sheet, sheet-file}
 
 module _ (s old : List ℕ) (r : Read) (c : SheetRead s r) where
   promised : {new : List ℕ} {a : Answer} → a ≡ operatorAnswer s (length old) → new ≡ operatorBuffer s old → OperatorPromise s old new a
@@ -24,6 +24,7 @@ module _ (s old : List ℕ) (r : Read) (c : SheetRead s r) where
     multiplies = λ z. subst (λ A. SameOperator A (sheetOperator s)) (sym (sheet-file s (accepted s z))) (sheet-same-least s (accepted s z));
     least = λ z. sheet-least s (accepted s z);
     exact = λ z. sheet-exact s (accepted s z);
+    stated = λ z. sheet-stated s (accepted s z);
     count = exponent-back (sheetLeast s .exponent) (sheetLeast s .matrix);
   }
 

@@ -6,9 +6,9 @@ use mathlib.Core.Logic.{_≢_}
 use Prim.Native.Nat.{ℕ, _+_, _-_, _≤_, _<_}
 use native.Mathlib.Omega.{arith}
 use lib.Dec.{leb, ltb}
-use lib.ListN.{length, getD, take}
+use lib.ListN.{length, getD, take, drop, length-drop}
 use lib.Seq.{length-take-le, getD-take}
-use borrow.Author.Tests.{leb-true, ltb-false, le-ltb}
+use borrow.Author.Tests.{eqb-true, leb-true, ltb-false, le-ltb}
 use Rattle.matrix.specs.Range.{every}
 use Rattle.matrix.specs.Matrix.{entry, listed}
 use Rattle.matrix.specs.Operator.{operator, SameOperator, Orthogonal, LeastExponent}
@@ -23,8 +23,8 @@ use Rattle.file.specs.File.{fileOperator}
 use Rattle.file.specs.Laws.File.{operator-back}
 use Rattle.reduction.specs.Reduction.{normalForm}
 use Rattle.reduction.specs.Laws.NormalForm.{Numbers, normal-exponent, normal-orthogonal}
-use Rattle.sheet_bytes.specs.Bytes.{shortest, longest, sheetOf, sheetNumbers, sheetColumns, sheetSign, sheetOperator}
-use Rattle.sheet_bytes.specs.Sheet.{isNumber, areNumbers, isClifford, hasWrongSign, bytesRefusal, sheetRefusal, sheetLeast}
+use Rattle.sheet_bytes.specs.Bytes.{shortest, longest, countByte, sheetOf, sheetNumbers, sheetColumns, sheetSign, sheetOperator}
+use Rattle.sheet_bytes.specs.Sheet.{isCounted, isNumber, areNumbers, isClifford, hasWrongSign, bytesRefusal, sheetRefusal, sheetLeast}
 use Rattle.sheet_bytes.specs.Laws.Bytes.{sign-taken-in, times-sign}
 use Rattle.sheet_bytes.specs.Laws.Sheet.{length-sheet}
 use Rattle.sheet.specs.Promise.{sheetFile}
@@ -46,6 +46,7 @@ front-numbers s t h e i u =
 pub record InForm (s : List ℕ) : Type 0 where
   pub long : shortest ≤ length s
   pub short : length s ≤ longest
+  pub counted : isCounted s ≡ true
   pub numbers : areNumbers s ≡ true
   pub columns : areColumnBytes (sheetColumns s) ≡ true
   pub permutation : arePermutation (sheetColumns s) ≡ true
@@ -54,18 +55,21 @@ pub record InForm (s : List ℕ) : Type 0 where
 
 pub in-form : (s : List ℕ) (n : ℕ) → bytesRefusal s n ≡ 0 → InForm s
 in-form s n e =
-    go (ltb (length s) shortest) refl (ltb longest (length s)) refl (areNumbers s && areColumnBytes (sheetColumns s)) refl (isClifford (sheetColumns s)) refl (hasWrongSign (sheetColumns s) (sheetSign s)) refl e
+    go (ltb (length s) shortest) refl (ltb longest (length s)) refl (isCounted s) refl (areNumbers s && areColumnBytes (sheetColumns s)) refl (isClifford (sheetColumns s)) refl (hasWrongSign (sheetColumns s) (sheetSign s)) refl e
   where
-    go : (a : Bool) → ltb (length s) shortest ≡ a → (b : Bool) → ltb longest (length s) ≡ b → (c : Bool) → (areNumbers s && areColumnBytes (sheetColumns s)) ≡ c → (d : Bool) → isClifford (sheetColumns s) ≡ d
-        → (f : Bool) → hasWrongSign (sheetColumns s) (sheetSign s) ≡ f → _≡_ {A = ℕ} (cond (a || b) 10 (cond (not c) 11 (cond (not d) 12 (cond f 15 n)))) 0 → InForm s
-    go true p b q c r d x f y e = absurd (omega arith)
-    go false p true q c r d x f y e = absurd (omega arith)
-    go false p false q false r d x f y e = absurd (omega arith)
-    go false p false q true r false x f y e = absurd (omega arith)
-    go false p false q true r true x true y e = absurd (omega arith)
-    go false p false q true r true x false y e = record {
+    go : (a : Bool) → ltb (length s) shortest ≡ a → (b : Bool) → ltb longest (length s) ≡ b → (t : Bool) → isCounted s ≡ t → (c : Bool) → (areNumbers s && areColumnBytes (sheetColumns s)) ≡ c
+        → (d : Bool) → isClifford (sheetColumns s) ≡ d → (f : Bool) → hasWrongSign (sheetColumns s) (sheetSign s) ≡ f
+        → _≡_ {A = ℕ} (cond (a || b) 10 (cond (not t) 16 (cond (not c) 11 (cond (not d) 12 (cond f 15 n))))) 0 → InForm s
+    go true p b q t z c r d x f y e = absurd (omega arith)
+    go false p true q t z c r d x f y e = absurd (omega arith)
+    go false p false q false z c r d x f y e = absurd (omega arith)
+    go false p false q true z false r d x f y e = absurd (omega arith)
+    go false p false q true z true r false x f y e = absurd (omega arith)
+    go false p false q true z true r true x true y e = absurd (omega arith)
+    go false p false q true z true r true x false y e = record {
       long = ltb-false _ _ p;
       short = ltb-false _ _ q;
+      counted = z;
       numbers = and-left (areNumbers s) (areColumnBytes (sheetColumns s)) r;
       columns = and-right (areNumbers s) (areColumnBytes (sheetColumns s)) r;
       permutation = and-left (arePermutation (sheetColumns s)) (isEven (sheetColumns s)) x;
@@ -75,26 +79,31 @@ in-form s n e =
 
 -- what follows the tests decides for them
 pub in-form-refusal : (s : List ℕ) (n : ℕ) → InForm s → bytesRefusal s n ≡ n
-in-form-refusal s n f = rw (le-ltb _ _ (f .long), le-ltb _ _ (f .short), f .numbers, f .columns, f .permutation, f .even, f .sign)
+in-form-refusal s n f = rw (le-ltb _ _ (f .long), le-ltb _ _ (f .short), f .counted, f .numbers, f .columns, f .permutation, f .even, f .sign)
 
 -- and for no others
 pub out-of-form : (s : List ℕ) (n : ℕ) → bytesRefusal s 0 ≢ 0 → bytesRefusal s n ≡ bytesRefusal s 0
-out-of-form s n h = go (ltb (length s) shortest || ltb longest (length s)) (areNumbers s && areColumnBytes (sheetColumns s)) (isClifford (sheetColumns s)) (hasWrongSign (sheetColumns s) (sheetSign s)) h
+out-of-form s n h = go (ltb (length s) shortest || ltb longest (length s)) (isCounted s) (areNumbers s && areColumnBytes (sheetColumns s)) (isClifford (sheetColumns s)) (hasWrongSign (sheetColumns s) (sheetSign s)) h
   where
-    tests : Bool → Bool → Bool → Bool → ℕ → ℕ
-    tests a b c d n = cond a 10 (cond (not b) 11 (cond (not c) 12 (cond d 15 n)))
+    tests : Bool → Bool → Bool → Bool → Bool → ℕ → ℕ
+    tests a t b c d n = cond a 10 (cond (not t) 16 (cond (not b) 11 (cond (not c) 12 (cond d 15 n))))
 
-    go : (a b c d : Bool) → tests a b c d 0 ≢ 0 → tests a b c d n ≡ tests a b c d 0
-    go true b c d h = refl
-    go false false c d h = refl
-    go false true false d h = refl
-    go false true true true h = refl
-    go false true true false h = absurd (h refl)
+    go : (a t b c d : Bool) → tests a t b c d 0 ≢ 0 → tests a t b c d n ≡ tests a t b c d 0
+    go true t b c d h = refl
+    go false false b c d h = refl
+    go false true false c d h = refl
+    go false true true false d h = refl
+    go false true true true true h = refl
+    go false true true true false h = absurd (h refl)
 
 module _ (s : List ℕ) (f : InForm s) where
-  -- it has as many generators as bytes before the columns
+  -- room for the numbers behind the first byte
+  pub behind-first : length s - shortest ≤ length (drop 1 s)
+  behind-first = let l = length-drop 1 s in omega arith
+
+  -- it has as many generators as bytes between the first and the columns
   pub sheet-exponent : sheetOperator s .exponent ≡ length s - shortest
-  sheet-exponent = normal-exponent (sheetNumbers s) (columnsMatrix (sheetColumns s)) ∙ length-take-le (length s - shortest) s (omega arith)
+  sheet-exponent = normal-exponent (sheetNumbers s) (columnsMatrix (sheetColumns s)) ∙ length-take-le (length s - shortest) (drop 1 s) behind-first
 
   columns-permutation : Permutation (sheetColumns s)
   columns-permutation = permutation-sound (sheetColumns s) (f .permutation)
@@ -112,7 +121,7 @@ module _ (s : List ℕ) (f : InForm s) where
   sheet-orthogonal =
       let bs = signed (sheetSign s) (sheetColumns s) in
       same-orthogonal (same-operator-trans (same-operator-sym (times-sign (sheetSign s) (sheetNumbers s) (sheetColumns s) columns-permutation)) (listed-same (sheetOperator s)))
-      (normal-orthogonal (sheetNumbers s) (columnsMatrix bs) (front-numbers s (length s - shortest) (omega arith) (f .numbers))
+      (normal-orthogonal (sheetNumbers s) (columnsMatrix bs) (front-numbers (drop 1 s) (length s - shortest) behind-first (f .numbers))
       (columns-orthogonal bs (signed-permutation (sheetSign s) (sheetColumns s) columns-permutation)))
 
 -- ---- a sheet that earns no refusal
@@ -150,6 +159,10 @@ module _ (s : List ℕ) (a : Accepted s) where
   pub sheet-exact : length s ≡ sheetLeast s .exponent + shortest
   unfolding sheetLeast
   sheet-exact = sym (ap length (a .again)) ∙ length-sheet (sheetOperator s .exponent) (listed (sheetOperator s .matrix)) (sheet-orthogonal s (a .form))
+
+  -- and its first byte says it
+  pub sheet-stated : getD s 0 0 ≡ countByte (sheetLeast s .exponent)
+  sheet-stated = let e = sheet-exact in let c = eqb-true (getD s 0 0) (length s + 56) (a .form .counted) in omega arith
 
   pub sheet-small : sheetLeast s .exponent ≤ 28
   sheet-small = let e = sheet-exact in let h = a .form .short in omega arith

@@ -9,7 +9,6 @@ use denote.Ref.{now}
 use Rattle.matrix.specs.Laws.Range.{tabulate-is, Filled, filled-none, filled-more, filled-all}
 use Rattle.clifford.specs.Columns.{signedByte, signed}
 use Rattle.clifford.specs.Laws.Signed.{signed-at}
-use Rattle.sheet_bytes.specs.Bytes.{shortest}
 use borrow.Author.Needs.{needs}
 use Rattle.sheet_bytes.proofs.columns_from.Statement.{statement}
 use Rattle.sheet_bytes.proofs.columns_from.Tie as tie
@@ -18,7 +17,7 @@ use Rattle.sheet_bytes.proofs.columns_from.Tie as tie
 abbrev byte : List ℕ → ℕ → ℕ → ℕ → ℕ
 byte bytes at sign c = signedByte sign (getD bytes (at + c) 0)
 
-whole : (bytes : List ℕ) (at sign : ℕ) (columns₀ columns : List ℕ) → length bytes ≡ at + shortest → length columns₀ ≡ 6 → Filled 0 (byte bytes at sign) columns₀ 6 columns → columns ≡ signed sign (take 6 (drop at bytes))
+whole : (bytes : List ℕ) (at sign : ℕ) (columns₀ columns : List ℕ) → at + 6 ≤ length bytes → length columns₀ ≡ 6 → Filled 0 (byte bytes at sign) columns₀ 6 columns → columns ≡ signed sign (take 6 (drop at bytes))
 whole bytes at sign columns₀ columns l m f =
     let six : length (take 6 (drop at bytes)) ≡ 6 = length-take-le 6 (drop at bytes) (let e = length-drop at bytes in omega arith) in
     filled-all 0 (byte bytes at sign) columns₀ 6 columns f (sym m)

@@ -14,7 +14,7 @@ use Rattle.clifford.specs.Laws.Columns.{Permutation}
 use Rattle.clifford.specs.Laws.Signed.{negated-minus, signed-at, signed-permutation, signed-matrix, signed-twice}
 use Rattle.reduction.specs.Reduction.{normalForm}
 use Rattle.reduction.specs.Laws.NormalForm.{normal-exponent, normal-cong, normal-scaled}
-use Rattle.sheet_bytes.specs.Bytes.{shortest, signByte, writtenColumns, sheetBytes, sheetNumbers, sheetColumns, sheetSign, timesSign, sheetOperator, beforeSign}
+use Rattle.sheet_bytes.specs.Bytes.{shortest, countByte, signByte, writtenColumns, sheetBytes, sheetNumbers, sheetColumns, sheetSign, timesSign, sheetOperator, beforeSign}
 
 -- ---- the parts
 
@@ -25,17 +25,25 @@ before-last xs x = let l = length-append xs (x ∷ []) in take-at xs (x ∷ []) 
 last-byte : (xs : List ℕ) (x : ℕ) → sheetSign (xs ++ x ∷ []) ≡ x
 last-byte xs x = let l = length-append xs (x ∷ []) in getD-at xs x [] 0 (length (xs ++ x ∷ []) - 1) (omega arith)
 
+-- the bytes before the sign
+abbrev pub unsignedBytes : List ℕ → List ℕ → List ℕ
+unsignedBytes gs bs = countByte (length gs) ∷ (gs ++ writtenColumns bs)
+
 module _ (gs bs : List ℕ) where
-  -- the sign is behind the rest
-  sign-last : sheetBytes gs bs ≡ (gs ++ writtenColumns bs) ++ signByte bs ∷ []
+  pub count-first : getD (sheetBytes gs bs) 0 0 ≡ countByte (length gs)
   unfolding sheetBytes
-  sign-last = sym (append-assoc gs (writtenColumns bs) (signByte bs ∷ []))
+  count-first = refl
+
+  -- the sign is behind the rest
+  sign-last : sheetBytes gs bs ≡ unsignedBytes gs bs ++ signByte bs ∷ []
+  unfolding sheetBytes
+  sign-last = ap (λ x. countByte (length gs) ∷ x) (sym (append-assoc gs (writtenColumns bs) (signByte bs ∷ [])))
 
   pub sign-back : sheetSign (sheetBytes gs bs) ≡ signByte bs
-  sign-back = ap sheetSign sign-last ∙ last-byte (gs ++ writtenColumns bs) (signByte bs)
+  sign-back = ap sheetSign sign-last ∙ last-byte (unsignedBytes gs bs) (signByte bs)
 
-  pub before-sign : beforeSign (sheetBytes gs bs) ≡ gs ++ writtenColumns bs
-  before-sign = ap beforeSign sign-last ∙ before-last (gs ++ writtenColumns bs) (signByte bs)
+  pub before-sign : beforeSign (sheetBytes gs bs) ≡ unsignedBytes gs bs
+  before-sign = ap beforeSign sign-last ∙ before-last (unsignedBytes gs bs) (signByte bs)
 
   pub before-and-sign : sheetBytes gs bs ≡ beforeSign (sheetBytes gs bs) ++ signByte bs ∷ []
   before-and-sign = sign-last ∙ ap (λ x. x ++ signByte bs ∷ []) (sym before-sign)
@@ -52,18 +60,14 @@ module _ (gs bs : List ℕ) (l : length bs ≡ 6) where
       let c = written-long bs l in
       omega arith
 
-  count-bytes : length (sheetBytes gs bs) - shortest ≡ length gs
-  count-bytes = let e = length-bytes in omega arith
-
   pub numbers-back : sheetNumbers (sheetBytes gs bs) ≡ gs
   unfolding sheetBytes
-  numbers-back = ap (λ n. take n (sheetBytes gs bs)) count-bytes ∙ take-at gs (writtenColumns bs ++ signByte bs ∷ []) (length gs) refl
+  numbers-back = take-at gs (writtenColumns bs ++ signByte bs ∷ []) (length (sheetBytes gs bs) - shortest) (let e = length-bytes in omega arith)
 
   pub columns-back : sheetColumns (sheetBytes gs bs) ≡ writtenColumns bs
   unfolding sheetBytes
   columns-back =
-      ap (λ n. take 6 (drop n (sheetBytes gs bs))) count-bytes
-      ∙ ap (take 6) (drop-at gs (writtenColumns bs ++ signByte bs ∷ []) (length gs) refl)
+      ap (take 6) (drop-at (countByte (length gs) ∷ gs) (writtenColumns bs ++ signByte bs ∷ []) (length (sheetBytes gs bs) - 7) (let e = length-bytes in omega arith))
       ∙ take-at (writtenColumns bs) (signByte bs ∷ []) 6 (written-long bs l)
 
 -- the same of the first `count` numbers of an array

@@ -18,8 +18,8 @@ use Rattle.clifford.specs.Laws.Signed.{negated-minus, signed-at, signed-none, s
 use Rattle.reduction.specs.Reduction.{generators, remainder, count, taken, remaining}
 use Rattle.reduction.specs.Laws.NormalForm.{cutting, normal-form-same}
 use Rattle.reduction.specs.Laws.Negative.{negativeOf, negative-same, negative-array-orthogonal, taken-negative, remaining-negative}
-use Rattle.sheet_bytes.specs.Bytes.{shortest, signByte, writtenColumns, sheetBytes, sheet, sheetOperator, beforeSign}
-use Rattle.sheet_bytes.specs.Laws.Bytes.{length-bytes, before-sign, before-and-sign, bytes-operator}
+use Rattle.sheet_bytes.specs.Bytes.{shortest, countByte, signByte, writtenColumns, sheetBytes, sheet, sheetOperator, beforeSign}
+use Rattle.sheet_bytes.specs.Laws.Bytes.{unsignedBytes, length-bytes, before-sign, before-and-sign, bytes-operator}
 
 -- the columns of what remains
 abbrev pub columnsLeft : ℕ → List ℤ → List ℕ
@@ -95,8 +95,8 @@ module _ (k : ℕ) (m : List ℤ) (o : Orthogonal (operator k (entry m))) where
   unfolding sheet
   before-negative =
       before-sign (taken k (negativeOf m)) (columnsLeft k (negativeOf m))
-      ∙ ap₂ (λ gs bs. gs ++ writtenColumns bs) (taken-negative k m o) columns-negative
-      ∙ ap (λ x. taken k m ++ x) (written-alike (columnsLeft k m) (left-permutation k m o))
+      ∙ ap₂ unsignedBytes (taken-negative k m o) columns-negative
+      ∙ ap (λ x. countByte (length (taken k m)) ∷ (taken k m ++ x)) (written-alike (columnsLeft k m) (left-permutation k m o))
       ∙ sym (before-sign (taken k m) (columnsLeft k m))
 
   -- the sheet of −M has the other last byte, and no other difference

@@ -1,0 +1,61 @@
+//! Document 02, P4: a sheet says its count first, so that sheets laid end to end can be told apart, and
+//! a sheet without that byte is not read.
+
+mod walks;
+
+use plain::operator::{Operator, OPERATOR_BYTES};
+use plain::sheet::{Sheet, MAX_SHEET, MIN_SHEET};
+use plain::sheet_to_operator;
+
+fn bytes(operator: Operator) -> Vec<u8> {
+    let sheet = Sheet::cut(operator);
+    let mut bytes = vec![0; sheet.size()];
+    sheet.write(&mut bytes);
+    bytes
+}
+
+/// What the call that reads a sheet answers.
+fn read(sheet: &[u8]) -> Result<u8, u8> {
+    sheet_to_operator(sheet, &mut [0; OPERATOR_BYTES])
+}
+
+#[test]
+fn the_first_byte_is_the_count_with_64_added() {
+    for operator in walks::walks().flatten() {
+        let sheet = bytes(operator);
+        assert_eq!(sheet[0], 64 + operator.exponent);
+        assert_eq!(read(&sheet), Ok(operator.exponent));
+    }
+}
+
+#[test]
+fn sheets_end_to_end_are_told_apart_by_their_first_bytes() {
+    for operators in walks::walks() {
+        let sheets: Vec<Vec<u8>> = operators.into_iter().map(bytes).collect();
+        let end_to_end = sheets.concat();
+        let mut rest = end_to_end.as_slice();
+        for sheet in sheets {
+            let (next, further) = rest.split_at(usize::from(rest[0]) - 56);
+            assert_eq!(next, sheet);
+            rest = further;
+        }
+        assert!(rest.is_empty());
+    }
+}
+
+#[test]
+fn older_sheets_are_not_read() {
+    for operator in walks::walks().flatten() {
+        let sheet = bytes(operator);
+        let (last, columns) = sheet[1..].split_last().expect("a sheet has a last byte");
+        // Before P2 the columns had the sign of the operator.
+        let signs = |column: &u8| if *last == 1 { column ^ 128 } else { *column };
+        let generators = usize::from(operator.exponent);
+        let (numbers, columns) = columns.split_at(generators);
+        let columns: Vec<u8> = columns.iter().map(signs).collect();
+        for older in [&sheet[1..], &[numbers, &columns].concat()] {
+            let allowed = (MIN_SHEET..=MAX_SHEET).contains(&older.len());
+            assert_eq!(read(older), Err(if allowed { 16 } else { 10 }));
+        }
+    }
+}
