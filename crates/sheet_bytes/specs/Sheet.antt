@@ -13,7 +13,7 @@ use Rattle.matrix.specs.Array.{leastForm}
 use Rattle.clifford.specs.Columns.{areColumnBytes, arePermutation, isEven, isMinus}
 use Rattle.sheet_bytes.specs.Bytes.{shortest, longest, sheetOf, sheetColumns, sheetSign, sheetOperator}
 
--- not "a first byte that isn't the length plus 56"
+-- bytes whose first says how long they are, as a statement and as a test: where it fails, "a first byte that isn't the length plus 56"
 abbrev pub Counted : List ℕ → Type 0
 Counted s = getD s 0 0 ≡ length s + 56
 

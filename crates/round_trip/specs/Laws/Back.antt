@@ -10,7 +10,7 @@ use lib.Seq.{getD-take}
 use borrow.Author.Tests.{eq-eqb, le-leb, le-ltb}
 use Rattle.matrix.specs.List.{sameList}
 use Rattle.matrix.specs.Matrix.{entry, listed}
-use Rattle.matrix.specs.Operator.{operator, Proper}
+use Rattle.matrix.specs.Operator.{operator, SameOperator, Proper}
 use Rattle.matrix.specs.Laws.Test.{T-true, true-T, same-list-refl, and-left, and-right}
 use Rattle.matrix.specs.Laws.Range.{every-complete}
 use Rattle.matrix.specs.Laws.Operator.{same-operator-sym, same-operator-trans, same-orthogonal, same-proper}
@@ -34,7 +34,7 @@ use Rattle.sheet_bytes.specs.Laws.Bytes.{numbers-back, columns-back, sign-back,
 use Rattle.sheet_bytes.specs.Laws.Sheet.{columnsLeft, left-permutation, same-sheet}
 use Rattle.sheet_bytes.specs.Laws.Count.{sheet-counted}
 use Rattle.sheet.specs.Promise.{sheetFile}
-use Rattle.sheet.specs.Laws.Sheet.{Accepted, sheet-orthogonal, sheet-same-least, sheet-small, least-orthogonal-sheet, sheet-long, sheet-file}
+use Rattle.sheet.specs.Laws.Sheet.{Accepted, accepted, sheet-orthogonal, sheet-same-least, sheet-small, least-orthogonal-sheet, sheet-long, sheet-file}
 
 -- ---- six column bytes
 
@@ -113,6 +113,13 @@ module _ (b : List ℕ) (z : fileRefusal b ≡ 0) where
         clifford-passes,
         sign-passes,
       )
+
+  -- "Reading what we now write still gives the operator"
+  pub read-back : SameOperator (fileOperator (sheetFile (fileSheet b))) (fileOperator b)
+  read-back =
+      let s = fileSheet b in
+      let a = accepted s file-sheet-read in
+      same-operator-trans (subst (λ A. SameOperator A (sheetOperator s)) (sym (sheet-file s a)) (sheet-same-least s a)) (sheet-multiplies b z)
 
 -- ---- a sheet's file is cut into the sheet
 

@@ -1,6 +1,6 @@
 -- The first byte. A sheet says how long it is, so that sheets laid end to end can be told apart; bytes that do not say it are not read.
 use mathlib.Core.Path.{_≡_, refl, sym, ap, ap₂, _∙_}
-use mathlib.Core.Logic.{_≢_, _⊎_, inl, inr, ⊎-elim}
+use mathlib.Core.Logic.{_≢_, ⊎-elim}
 use mathlib.Core.Bool.{Bool, true, false, cond, _||_}
 use mathlib.Core.List.{List, [], _∷_, _++_, flatten}
 use Prim.Native.Nat.{ℕ, suc, _+_, _-_, _≤_, _<_}
@@ -8,7 +8,7 @@ use native.Mathlib.Decide.{ℕ-discrete}
 use native.Mathlib.Omega.{arith}
 use lib.Dec.{ltb}
 use lib.IntN.{ℤ}
-use lib.ListN.{length, getD, take, drop, List·getD-append}
+use lib.ListN.{length, getD, take, drop}
 use lib.Seq.{take-at, drop-at}
 use borrow.Author.Tests.{ltb-false, ne-eqb}
 use Rattle.matrix.specs.Matrix.{entry}
@@ -79,19 +79,16 @@ older-refused [] [] more n l c = absurd (omega arith)
 abbrev pub firstEnd : List ℕ → ℕ
 firstEnd b = getD b 0 0 - 56
 
-module _ (s rest : List ℕ) (c : Counted s) where
-  first-end : length s ≡ firstEnd (s ++ rest)
-  first-end = go s c
-    where
-      go : (s : List ℕ) → Counted s → length s ≡ firstEnd (s ++ rest)
-      go [] c = absurd (omega arith)
-      go (x ∷ s) c = omega arith
+first-end : (s rest : List ℕ) → Counted s → length s ≡ firstEnd (s ++ rest)
+first-end [] rest c = absurd (omega arith)
+first-end (x ∷ s) rest c = omega arith
 
+module _ (s rest : List ℕ) (c : Counted s) where
   pub first-sheet : take (firstEnd (s ++ rest)) (s ++ rest) ≡ s
-  first-sheet = take-at s rest (firstEnd (s ++ rest)) first-end
+  first-sheet = take-at s rest (firstEnd (s ++ rest)) (first-end s rest c)
 
   pub further-sheets : drop (firstEnd (s ++ rest)) (s ++ rest) ≡ rest
-  further-sheets = drop-at s rest (firstEnd (s ++ rest)) first-end
+  further-sheets = drop-at s rest (firstEnd (s ++ rest)) (first-end s rest c)
 
 abbrev pub AllCounted : List (List ℕ) → Type 0
 AllCounted ss = (n : ℕ) → n < length ss → Counted (getD ss n [])
