@@ -24,7 +24,7 @@ const OTHER_FIRST_BYTES: [u8; 8] = [0, 1, 15, 63, 64, 92, 93, 255];
 
 type Damage = fn(&mut Random, &mut Vec<u8>);
 
-const DAMAGES: [Damage; 36] = [
+const DAMAGES: [Damage; 33] = [
     bad_generator,
     bad_column,
     bad_generator_and_repeated,
@@ -55,10 +55,7 @@ const DAMAGES: [Damage; 36] = [
     length_first,
     without_first_byte,
     without_first_and_last_byte,
-    wrong_count_and_bad_byte,
-    wrong_count_and_no_clifford,
-    wrong_count_and_wrong_sign,
-    wrong_count_and_other_sheet,
+    wrong_count_and_more,
     flip_bit,
     random_sheet,
 ];
@@ -84,6 +81,9 @@ const WRONG_SIGNS: [Damage; 4] = [
 
 /// Damages that earn 16, as a rule.
 const WRONG_COUNTS: [Damage; 4] = [other_first_byte, next_first_byte, count_first, length_first];
+
+/// Damages that earn what is asked after 16: 11, 12, 15 and 13.
+const LATER: [&[Damage]; 4] = [&BAD_BYTES, &NO_CLIFFORDS, &WRONG_SIGNS, &[equal_neighbours]];
 
 /// Runs the call that reads sheets.
 pub fn run(judge: &mut Judge) {
@@ -363,28 +363,10 @@ fn without_first_and_last_byte(random: &mut Random, sheet: &mut Vec<u8>) {
     sheet.pop();
 }
 
-fn wrong_count(random: &mut Random, sheet: &mut Vec<u8>) {
+fn wrong_count_and_more(random: &mut Random, sheet: &mut Vec<u8>) {
     random.pick(&WRONG_COUNTS)(random, sheet);
-}
-
-fn wrong_count_and_bad_byte(random: &mut Random, sheet: &mut Vec<u8>) {
-    wrong_count(random, sheet);
-    random.pick(&BAD_BYTES)(random, sheet);
-}
-
-fn wrong_count_and_no_clifford(random: &mut Random, sheet: &mut Vec<u8>) {
-    wrong_count(random, sheet);
-    random.pick(&NO_CLIFFORDS)(random, sheet);
-}
-
-fn wrong_count_and_wrong_sign(random: &mut Random, sheet: &mut Vec<u8>) {
-    wrong_count(random, sheet);
-    wrong_sign(random, sheet);
-}
-
-fn wrong_count_and_other_sheet(random: &mut Random, sheet: &mut Vec<u8>) {
-    wrong_count(random, sheet);
-    equal_neighbours(random, sheet);
+    let later = random.pick(&LATER);
+    random.pick(later)(random, sheet);
 }
 
 fn flip_bit(random: &mut Random, sheet: &mut Vec<u8>) {
