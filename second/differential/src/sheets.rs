@@ -20,7 +20,7 @@ const LENGTHS: std::ops::RangeInclusive<usize> = 0..=42;
 const BAD_GENERATORS: [u8; 8] = [0, 16, 17, 127, 128, 129, 143, 255];
 const BAD_COLUMNS: [u8; 8] = [0, 7, 8, 127, 128, 135, 136, 255];
 const BAD_LAST_BYTES: [u8; 8] = [2, 3, 4, 127, 128, 129, 254, 255];
-const OTHER_FIRST_BYTES: [u8; 8] = [0, 1, 15, 63, 64, 92, 93, 255];
+const OTHER_FIRST_BYTES: [usize; 8] = [0, 1, 15, 63, 64, 92, 93, 255];
 
 type Damage = fn(&mut Random, &mut Vec<u8>);
 
@@ -120,12 +120,16 @@ fn of_length(random: &mut Random, len: usize) -> Vec<u8> {
     sheet
 }
 
-/// Writes the first byte of the length.
-fn say_length(sheet: &mut [u8]) {
-    let said = sheet.len() + ABOVE_LENGTH;
+/// Puts the byte of a small number first.
+fn say(number: usize, sheet: &mut [u8]) {
     if let Some(first) = sheet.first_mut() {
-        *first = said as u8;
+        *first = number as u8;
     }
+}
+
+/// Puts the byte first that belongs to the length.
+fn say_length(sheet: &mut [u8]) {
+    say(sheet.len() + ABOVE_LENGTH, sheet);
 }
 
 /// The number of generator bytes; none in what is shorter than a sheet.
@@ -308,20 +312,19 @@ fn wrong_sign_and_other_sheet(random: &mut Random, sheet: &mut Vec<u8>) {
     equal_neighbours(random, sheet);
 }
 
-/// Each byte but the first is read in the place behind its own.
+/// The last generator is read as column 1, and each column as the next one.
 fn without_last_byte(_: &mut Random, sheet: &mut Vec<u8>) {
     sheet.pop();
     say_length(sheet);
 }
 
 fn other_first_byte(random: &mut Random, sheet: &mut Vec<u8>) {
-    if let Some(first) = sheet.first_mut() {
-        *first = if random.chance(2) {
-            *random.pick(&OTHER_FIRST_BYTES)
-        } else {
-            random.below(256) as u8
-        };
-    }
+    let other = if random.chance(2) {
+        *random.pick(&OTHER_FIRST_BYTES)
+    } else {
+        random.below(256)
+    };
+    say(other, sheet);
 }
 
 /// The first byte of a sheet that is one byte longer or shorter.
@@ -334,17 +337,11 @@ fn next_first_byte(random: &mut Random, sheet: &mut Vec<u8>) {
 
 /// The count, without 64 added.
 fn count_first(_: &mut Random, sheet: &mut Vec<u8>) {
-    let count = count(sheet);
-    if let Some(first) = sheet.first_mut() {
-        *first = count as u8;
-    }
+    say(count(sheet), sheet);
 }
 
 fn length_first(_: &mut Random, sheet: &mut Vec<u8>) {
-    let length = sheet.len();
-    if let Some(first) = sheet.first_mut() {
-        *first = length as u8;
-    }
+    say(sheet.len(), sheet);
 }
 
 /// A sheet of P2.

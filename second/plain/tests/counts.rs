@@ -4,7 +4,7 @@
 mod walks;
 
 use plain::operator::{Operator, OPERATOR_BYTES};
-use plain::sheet::{Sheet, MAX_SHEET, MIN_SHEET};
+use plain::sheet::{columns, Sheet, MAX_SHEET, MIN_SHEET};
 use plain::sheet_to_operator;
 
 fn bytes(operator: Operator) -> Vec<u8> {
@@ -46,14 +46,10 @@ fn sheets_end_to_end_are_told_apart_by_their_first_bytes() {
 #[test]
 fn older_sheets_are_not_read() {
     for operator in walks::walks().flatten() {
-        let sheet = bytes(operator);
-        let (last, columns) = sheet[1..].split_last().expect("a sheet has a last byte");
-        // Before P2 the columns had the sign of the operator.
-        let signs = |column: &u8| if *last == 1 { column ^ 128 } else { *column };
-        let generators = usize::from(operator.exponent);
-        let (numbers, columns) = columns.split_at(generators);
-        let columns: Vec<u8> = columns.iter().map(signs).collect();
-        for older in [&sheet[1..], &[numbers, &columns].concat()] {
+        let with_sign = &bytes(operator)[1..];
+        let sheet = Sheet::cut(operator);
+        let without_sign = [&sheet.generators[..], &columns(&sheet.rest().matrix)].concat();
+        for older in [with_sign, &without_sign] {
             let allowed = (MIN_SHEET..=MAX_SHEET).contains(&older.len());
             assert_eq!(read(older), Err(if allowed { 16 } else { 10 }));
         }

@@ -17,7 +17,7 @@ use Rattle.file.specs.declared.Read.{Read}
 use Rattle.sheet_bytes.specs.Bytes.{shortest, sheetNumbers, sheetColumns, sheetSign, sheetOperator}
 use Rattle.sheet_bytes.specs.Sheet.{bytesRefusal, sheetRefusal, sheetLeast}
 use Rattle.sheet.specs.Promise.{CutAgain, SheetRead}
-use Rattle.sheet.specs.Laws.Sheet.{InForm, in-form, in-form-refusal, out-of-form, behind-first, sheet-exponent, signed-columns, sheet-matrix, sheet-orthogonal, same-again}
+use Rattle.sheet.specs.Laws.Sheet.{InForm, in-form, in-form-refusal, out-of-form, numbers-room, sheet-exponent, signed-columns, sheet-matrix, sheet-orthogonal, same-again}
 use Rattle.sheet.proofs.read_sheet.Statement.{statement}
 use Rattle.sheet.proofs.read_sheet.Tie as tie
 
@@ -91,7 +91,7 @@ multiplied-requires : tie.Need-multiplied-requires
 multiplied-requires c κs =
     let f = formed (c .before .before .before) in
     let s = now (c .before .before .before .before .before .before .args .bytes) in
-    (omega arith, rw (part-to-end s 1) (behind-first s f), rw (part-to-end s 1) (f .numbers), rw (c .before .columns-from .ensures) (signed-columns s f))
+    (omega arith, rw (part-to-end s 1) (numbers-room s f), rw (part-to-end s 1) (f .numbers), rw (c .before .columns-from .ensures) (signed-columns s f))
 
 cast-cut-again : tie.Need-cast-cut-again
 cast-cut-again c = let f = formed (c .before .before .before .before) in omega arith

@@ -98,12 +98,12 @@ out-of-form s n h = go (ltb (length s) shortest || ltb longest (length s)) (isCo
 
 module _ (s : List ℕ) (f : InForm s) where
   -- room for the numbers behind the first byte
-  pub behind-first : length s - shortest ≤ length (drop 1 s)
-  behind-first = let l = length-drop 1 s in omega arith
+  pub numbers-room : length s - shortest ≤ length (drop 1 s)
+  numbers-room = let l = length-drop 1 s in omega arith
 
   -- it has as many generators as bytes between the first and the columns
   pub sheet-exponent : sheetOperator s .exponent ≡ length s - shortest
-  sheet-exponent = normal-exponent (sheetNumbers s) (columnsMatrix (sheetColumns s)) ∙ length-take-le (length s - shortest) (drop 1 s) behind-first
+  sheet-exponent = normal-exponent (sheetNumbers s) (columnsMatrix (sheetColumns s)) ∙ length-take-le (length s - shortest) (drop 1 s) numbers-room
 
   columns-permutation : Permutation (sheetColumns s)
   columns-permutation = permutation-sound (sheetColumns s) (f .permutation)
@@ -121,7 +121,7 @@ module _ (s : List ℕ) (f : InForm s) where
   sheet-orthogonal =
       let bs = signed (sheetSign s) (sheetColumns s) in
       same-orthogonal (same-operator-trans (same-operator-sym (times-sign (sheetSign s) (sheetNumbers s) (sheetColumns s) columns-permutation)) (listed-same (sheetOperator s)))
-      (normal-orthogonal (sheetNumbers s) (columnsMatrix bs) (front-numbers (drop 1 s) (length s - shortest) behind-first (f .numbers))
+      (normal-orthogonal (sheetNumbers s) (columnsMatrix bs) (front-numbers (drop 1 s) (length s - shortest) numbers-room (f .numbers))
       (columns-orthogonal bs (signed-permutation (sheetSign s) (sheetColumns s) columns-permutation)))
 
 -- ---- a sheet that earns no refusal

@@ -90,14 +90,15 @@ module _ (s rest : List ℕ) (c : Counted s) where
   pub further-sheets : drop (firstEnd (s ++ rest)) (s ++ rest) ≡ rest
   further-sheets = drop-at s rest (firstEnd (s ++ rest)) (first-end s rest c)
 
-abbrev pub AllCounted : List (List ℕ) → Type 0
-AllCounted ss = (n : ℕ) → n < length ss → Counted (getD ss n [])
+-- of each list among these it holds
+abbrev pub Each : (List ℕ → Type 0) → List (List ℕ) → Type 0
+Each P ss = (n : ℕ) → n < length ss → P (getD ss n [])
 
 not-nothing : (s rest : List ℕ) → Counted s → [] ≢ s ++ rest
 not-nothing [] rest c e = omega arith
 not-nothing (x ∷ s) rest c e = let l = ap length e in omega arith
 
-pub told-apart : (ss ts : List (List ℕ)) → AllCounted ss → AllCounted ts → flatten ss ≡ flatten ts → ss ≡ ts
+pub told-apart : (ss ts : List (List ℕ)) → Each Counted ss → Each Counted ts → flatten ss ≡ flatten ts → ss ≡ ts
 unfolding flatten
 told-apart [] [] c d e = refl
 told-apart [] (t ∷ ts) c d e = absurd (not-nothing t (flatten ts) (d 0 (omega arith)) e)
@@ -111,6 +112,5 @@ told-apart (s ∷ ss) (t ∷ ts) c d e =
     (sym (further-sheets s (flatten ss) x) ∙ ap (λ b. drop (firstEnd b) b) e ∙ further-sheets t (flatten ts) y))
 
 -- of two lists of sheets with the same bytes end to end each sheet is the same
-pub sheets-told-apart : (ss ts : List (List ℕ)) → ((n : ℕ) → n < length ss → sheetRefusal (getD ss n []) ≡ 0) → ((n : ℕ) → n < length ts → sheetRefusal (getD ts n []) ≡ 0)
-    → flatten ss ≡ flatten ts → ss ≡ ts
+pub sheets-told-apart : (ss ts : List (List ℕ)) → Each (λ s. sheetRefusal s ≡ 0) ss → Each (λ s. sheetRefusal s ≡ 0) ts → flatten ss ≡ flatten ts → ss ≡ ts
 sheets-told-apart ss ts c d e = told-apart ss ts (λ n h. read-counted (getD ss n []) (c n h)) (λ n h. read-counted (getD ts n []) (d n h)) e
