@@ -28,8 +28,8 @@ pub enum Cuts {
 }
 
 // An operator file into a sheet at the front of `out`.
-// Wrong, and refused: the first generator's number in every place; the exponent that the file carries as the count; a last byte of 0 for
-// every operator; the count for L.
+// Wrong, and refused: the first generator's number in every place; the exponent that the file carries as the count; the count itself as the
+// first byte; a last byte of 0 for every operator; the count for L.
 pub fn operator_to_sheet(bytes: &[u8], out: &mut [u8]) -> Cuts
     ensures { λ r. ⌜ SheetPromise (now (bytes .entry)) (now (out .entry)) (now (out .exit)) r ⌝ }
 {
