@@ -81,7 +81,7 @@ fn read_sheet(bytes: &[u8]) -> Read
         return file::refused(refusal);
     }
     let count = bytes.len() - sheet_bytes::SHORTEST;
-    let columns = sheet_bytes::columns_from(bytes, bytes.len() - 7, bytes[bytes.len() - 1]);
+    let columns = sheet_bytes::columns_from(bytes, bytes[bytes.len() - 1]);
     let m = multiplied(&bytes[1..], count, columns);
     cut_again(bytes, count as u8, m)
 }

@@ -3,11 +3,11 @@
 ghost use mathlib.Core.Bool.{true, not, cond};
 ghost use mathlib.Core.Path.{_≡_};
 ghost use Prim.Native.Nat.{_+_, _≤_, _<_};
-ghost use lib.ListN.{length, getD, take, drop};
+ghost use lib.ListN.{length, getD, take};
 ghost use Rattle.matrix.specs.Range.{every};
 ghost use Rattle.matrix.specs.Matrix.{entry};
 ghost use Rattle.clifford.specs.Columns.{areColumnBytes, signed};
-ghost use Rattle.sheet_bytes.specs.Bytes.{shortest, longest, signByte, sheetBytes};
+ghost use Rattle.sheet_bytes.specs.Bytes.{shortest, longest, signByte, sheetBytes, sheetColumns};
 ghost use Rattle.sheet_bytes.specs.Sheet.{isCounted, isNumber, isClifford, hasWrongSign, bytesRefusal};
 
 // The fewest and the most bytes of a sheet: the count, six columns and the sign, and with them up to 28 generators.
@@ -71,11 +71,12 @@ fn are_numbers(bytes: &[u8], count: usize) -> bool
     true
 }
 
-// The six column bytes from `at` on, times a sign.
-pub fn columns_from(bytes: &[u8], at: usize, sign: u8) -> [u8; 6]
-    requires { ⌜ at + 6 ≤ length (now bytes) ⌝ }
-    ensures { λ r. ⌜ r ≡ signed sign (take 6 (drop at (now (bytes .entry)))) ⌝ }
+// The six column bytes, times a sign.
+pub fn columns_from(bytes: &[u8], sign: u8) -> [u8; 6]
+    requires { ⌜ 7 ≤ length (now bytes) ⌝ }
+    ensures { λ r. ⌜ r ≡ signed sign (sheetColumns (now (bytes .entry))) ⌝ }
 {
+    let at = bytes.len() - 7;
     let mut columns = [0u8; 6];
     let mut c = 0usize;
     while c < 6 {
@@ -136,6 +137,6 @@ pub fn bytes_refusal(bytes: &[u8]) -> u8
     if !numbers {
         return 11;
     }
-    let columns = columns_from(bytes, bytes.len() - 7, 0);
+    let columns = columns_from(bytes, 0);
     columns_refusal(columns, bytes[bytes.len() - 1])
 }

@@ -69,9 +69,6 @@ sub-count c = let f = formed c in omega arith
 sub-columns-from : tie.Need-sub-columns-from
 sub-columns-from c = let f = formed c in omega arith
 
-sub-columns-from-2 : tie.Need-sub-columns-from-2
-sub-columns-from-2 c = let f = formed c in omega arith
-
 shared-slice-read-columns-from : tie.Need-shared-slice-read-columns-from
 shared-slice-read-columns-from c = let f = formed (c .before) in omega arith
 
@@ -113,7 +110,6 @@ read-sheet-spec =
     returns
     sub-count
     sub-columns-from
-    sub-columns-from-2
     shared-slice-read-columns-from
     columns-from-requires
     sub-multiplied

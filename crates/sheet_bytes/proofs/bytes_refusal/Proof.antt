@@ -61,9 +61,6 @@ returns-4 c =
       sym (numbers lent) ∙ not-true _ (c .if4 .taken),
     )
 
-sub-columns-from : tie.Need-sub-columns-from
-sub-columns-from c = search needs
-
 columns-from-requires : tie.Need-columns-from-requires
 columns-from-requires c κs = search needs
 
@@ -106,7 +103,6 @@ bytes-refusal-spec =
     are-numbers-requires
     returns-3
     returns-4
-    sub-columns-from
     columns-from-requires
     sub-columns-refusal
     shared-slice-read-columns-refusal

@@ -25,10 +25,13 @@ whole bytes at sign columns₀ columns l m f =
     (λ i h. signed-at sign (take 6 (drop at bytes)) i (omega arith) ∙ ap (signedByte sign) (getD-take 6 (drop at bytes) i 0 h ∙ getD-drop at bytes i 0)))
 
 abbrev Inv-loop : tie.InvT-loop
-Inv-loop bytes at sign columns₀ c₀ columns c = (c ≤ 6) × Filled 0 (byte bytes at sign) columns₀ c columns
+Inv-loop bytes sign at columns₀ c₀ columns c = (c ≤ 6) × Filled 0 (byte bytes at sign) columns₀ c columns
 
 abbrev μ-loop : tie.MeasureT-loop
-μ-loop bytes at sign columns₀ c₀ columns c = 6 - c
+μ-loop bytes sign at columns₀ c₀ columns c = 6 - c
+
+sub-at : tie.Need-sub-at Inv-loop μ-loop
+sub-at c = search needs
 
 loop-holds : tie.Need-loop-holds Inv-loop μ-loop
 loop-holds c = (search needs, filled-none _ _ _)
@@ -61,7 +64,7 @@ returns c =
     let l = c .before in
     let s = l .before .before in
     let e : l .loop .c ≡ 6 = omega arith in
-    whole (now (s .args .bytes)) (s .args .at) (s .args .sign) _ (l .loop .columns) (s .pre) refl (rw e at (l .loop .inv .1))
+    whole (now (s .args .bytes)) (length (now (s .args .bytes)) - 7) (s .args .sign) _ (l .loop .columns) (omega (arith, s .pre)) refl (rw e at (l .loop .inv .1))
 
 pub columns-from-spec : {M : Type 1} → statement M
 columns-from-spec =
@@ -69,6 +72,7 @@ columns-from-spec =
     (tie.spec
     Inv-loop
     μ-loop
+    sub-at
     loop-holds
     add-signed-byte
     shared-slice-read-signed-byte

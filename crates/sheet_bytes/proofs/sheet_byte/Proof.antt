@@ -1,10 +1,10 @@
 -- The first byte is the count's, the next are the numbers, then six the columns times the sign, and the last is the sign.
 use mathlib.Core.Path.{_≡_, sym, ap, _∙_}
-use Prim.Native.Nat.{ℕ, zero, suc, _+_, _-_, _≤_, _<_}
+use Prim.Native.Nat.{ℕ, _+_, _-_, _≤_, _<_}
 use native.Mathlib.Omega.{arith}
 use mathlib.Core.List.{List, [], _∷_, _++_}
 use lib.ListN.{length, getD, take, List·getD-append}
-use lib.Seq.{length-take-le, getD-take, getD-append-add, getD-at}
+use lib.Seq.{length-take-le, getD-take, getD-drop, getD-append-add, getD-at}
 use borrow.Author.Needs.{needs}
 use Rattle.clifford.specs.Columns.{signedByte}
 use Rattle.clifford.specs.Laws.Signed.{signed-at}
@@ -12,11 +12,6 @@ use Rattle.sheet_bytes.specs.Bytes.{countByte, signByte, writtenColumns,
 use Rattle.sheet_bytes.specs.Laws.Bytes.{count-first, written-long}
 use Rattle.sheet_bytes.proofs.sheet_byte.Statement.{statement}
 use Rattle.sheet_bytes.proofs.sheet_byte.Tie as tie
-
--- behind the first byte
-inner-byte : (x : ℕ) (xs : List ℕ) (n : ℕ) → 1 ≤ n → getD (x ∷ xs) n 0 ≡ getD xs (n - 1) 0
-inner-byte x xs zero h = absurd (omega arith)
-inner-byte x xs (suc n) h = let e : n ≡ suc n - 1 = omega arith in ap (λ i. getD xs i 0) e
 
 module _ (count n : ℕ) (numbers columns : List ℕ) (h : count ≤ 60) (l : length numbers ≡ 60) (m : length columns ≡ 6) where
   abbrev sign : ℕ
@@ -34,9 +29,10 @@ module _ (count n : ℕ) (numbers columns : List ℕ) (h : count ≤ 60) (l : le
   first : n ≡ 0 → 64 + count ≡ getD held n 0
   first u = sym (ap (λ i. getD held i 0) u ∙ count-first (take count numbers) columns ∙ ap countByte taken)
 
+  -- behind the first byte
   inner : 1 ≤ n → getD held n 0 ≡ getD (take count numbers ++ rest) (n - 1) 0
   unfolding sheetBytes
-  inner u = inner-byte (countByte (length (take count numbers))) (take count numbers ++ rest) n u
+  inner u = let e : n ≡ 1 + (n - 1) = omega arith in ap (λ i. getD held i 0) e ∙ sym (getD-drop 1 held (n - 1) 0)
 
   front : 1 ≤ n → n ≤ count → getD numbers (n - 1) 0 ≡ getD held n 0
   front u v =
