@@ -7,7 +7,7 @@ use lib.IntN.{ℤ, pos, natAbs, _+ℤ_, _-ℤ_, _*ℤ_}
 use lib.ListN.{getD, set}
 use lib.Signed.{leZ}
 use Rattle.matrix.specs.declared.Least.{Least}
-use Rattle.matrix.specs.Range.{every, bits, total}
+use Rattle.matrix.specs.Range.{every, firstFrom, bits, total}
 use Rattle.matrix.specs.Integer.{parity, half, equals}
 use Rattle.matrix.specs.Matrix.{Matrix, δ, replaced, rowProduct, entry, listed}
 
@@ -39,9 +39,13 @@ rowMask M r = bits (λ c. parity (M r c)) 0 6
 unfoldable pub rowWeight : Matrix → ℕ → ℕ
 rowWeight M r = total (λ c. parity (M r c)) 0 6
 
--- "all entries are even"
-unfoldable pub allEven : Matrix → Bool
-allEven M = everywhere (λ r c. eqb (parity (M r c)) 0)
+-- whether entry n, row by row, is odd
+abbrev pub oddAt : Matrix → ℕ → Bool
+oddAt M n = eqb (parity (M (n / 6) (n % 6))) 1
+
+-- document 02, P6: row by row, "how many entries stand before the first odd one, 36 exactly when all are even"
+unfoldable pub beforeOdd : Matrix → ℕ
+beforeOdd M = firstFrom (oddAt M) 0 36
 
 abbrev pub halved : Matrix → Matrix
 halved M = λ r c. half (M r c)
@@ -66,4 +70,4 @@ unfoldable pub leastForm : ℕ → List ℤ → Least
 leastForm zero m = record { exponent = 0; matrix = m }
 leastForm (suc zero) m = record { exponent = 1; matrix = m }
 leastForm (suc (suc k)) m =
-    choose (allEven (entry m)) (leastForm k (listed (halved (entry m)))) (record { exponent = suc (suc k); matrix = m })
+    choose (eqb (beforeOdd (entry m)) 36) (leastForm k (listed (halved (entry m)))) (record { exponent = suc (suc k); matrix = m })

@@ -7,7 +7,7 @@ ghost use lib.IntN.{pos, natAbs};
 ghost use lib.ListN.{length, getD};
 ghost use Rattle.matrix.specs.Integer.{parity};
 ghost use Rattle.matrix.specs.Matrix.{entry, listed, rowProduct};
-ghost use Rattle.matrix.specs.Array.{Bounded, rowMask, allEven, halved, halfSums, halfPair, leastForm};
+ghost use Rattle.matrix.specs.Array.{Bounded, rowMask, beforeOdd, halved, halfSums, halfPair, leastForm};
 
 // An operator at its least exponent.
 pub struct Least {
@@ -40,18 +40,18 @@ pub fn parity_of(x: i64) -> u8
     1
 }
 
-// Whether every entry is even.
-pub fn all_even(m: &[i64; 36]) -> bool
-    ensures { λ r. ⌜ r ≡ allEven (entry (now (m .entry))) ⌝ }
+// How many entries, row by row, stand before the first odd one: 36 if all are even.
+pub fn before_odd(m: &[i64; 36]) -> usize
+    ensures { λ r. ⌜ r ≡ beforeOdd (entry (now (m .entry))) ⌝ }
 {
     let mut n = 0usize;
     while n < 36 {
-        if parity_of(m[n]) != 0 {
-            return false;
+        if parity_of(m[n]) == 1 {
+            return n;
         }
         n += 1;
     }
-    true
+    n
 }
 
 // Every entry halved.
@@ -88,7 +88,7 @@ pub fn least_form(k: u8, m: [i64; 36]) -> Least
     let mut exponent = k;
     let mut matrix = m;
     while 2 <= exponent {
-        if !all_even(&matrix) {
+        if before_odd(&matrix) != 36 {
             return Least { exponent, matrix };
         }
         let half = halve(matrix);

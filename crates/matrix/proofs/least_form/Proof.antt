@@ -2,7 +2,6 @@
 use mathlib.Core.Path.{_≡_, sym, ap, _∙_}
 use Prim.Native.Nat.{_-_}
 use borrow.Author.Needs.{needs}
-use borrow.Author.Tests.{not-true, not-false}
 use Rattle.matrix.specs.Array.{leastForm}
 use Rattle.matrix.specs.Laws.Array.{least-turn, least-odd, least-small}
 use Rattle.matrix.proofs.least_form.Statement.{statement}
@@ -17,13 +16,13 @@ abbrev μ-loop : tie.MeasureT-loop
 loop-holds : tie.Need-loop-holds Inv-loop μ-loop
 loop-holds c = search needs
 
-all-even-requires : tie.Need-all-even-requires Inv-loop μ-loop
-all-even-requires c κs = search needs
+before-odd-requires : tie.Need-before-odd-requires Inv-loop μ-loop
+before-odd-requires c κs = search needs
 
 returns : tie.Need-returns Inv-loop μ-loop
 returns c =
     let l = c .before .before .before .before in
-    sym (l .loop .inv ∙ least-odd (l .loop .exponent) (l .loop .matrix) (sym (c .before .all-even .ensures) ∙ not-true _ (c .if1 .taken)))
+    sym (l .loop .inv ∙ least-odd (l .loop .exponent) (l .loop .matrix) (λ e. c .if1 .taken (c .before .before-odd .ensures ∙ e)))
 
 halve-requires : tie.Need-halve-requires Inv-loop μ-loop
 halve-requires c κs = search needs
@@ -35,7 +34,7 @@ loop-again : tie.Need-loop-again Inv-loop μ-loop
 loop-again c =
     let l = c .before .before .before .before .before in
     l .loop .inv
-    ∙ least-turn (l .loop .exponent) (l .loop .matrix) (c .before .before .before .before .loop-test .taken) (sym (c .before .before .all-even .ensures) ∙ not-false _ (c .before .if1 .left))
+    ∙ least-turn (l .loop .exponent) (l .loop .matrix) (c .before .before .before .before .loop-test .taken) (sym (c .before .before .before-odd .ensures) ∙ c .before .if1 .left)
     ∙ ap (leastForm (l .loop .exponent - 2)) (sym (c .halve .ensures))
 
 returns-2 : tie.Need-returns-2 Inv-loop μ-loop
@@ -43,4 +42,4 @@ returns-2 c = let l = c .before in sym (l .loop .inv ∙ least-small (l .loop .e
 
 pub least-form-spec : {M : Type 1} → statement M
 least-form-spec =
-    tie.close (tie.spec Inv-loop μ-loop loop-holds all-even-requires returns halve-requires loop-less loop-again returns-2)
+    tie.close (tie.spec Inv-loop μ-loop loop-holds before-odd-requires returns halve-requires loop-less loop-again returns-2)

@@ -1,28 +1,28 @@
 -- What the tests and the results of specs/Array.antt mean.
 use mathlib.Core.Path.{_≡_, refl, sym, ap, _∙_, subst}
-use mathlib.Core.Logic.{_≢_}
+use mathlib.Core.Logic.{_≢_, inl, inr}
 use mathlib.Core.Bool.{Bool, true, false, _||_}
 use mathlib.Core.List.{List, [], _∷_}
 use Prim.Native.Nat.{ℕ, zero, suc, _+_, _*_, _-_, _/_, _%_, _^_, _<_, _≤_}
 use native.Mathlib.Omega.{arith}
 use native.Mathlib.Decide.{decLt, ℕ-discrete}
 use lib.Count.{ones}
-use lib.Dec.{T, eqb, ltb}
+use lib.Dec.{eqb, ltb}
 use lib.IntN.{ℤ, pos, negsuc, natAbs, _+ℤ_, _-ℤ_, _*ℤ_, *ℤ-comm, *ℤ-zero}
 use lib.ListN.{length, getD, set}
 use lib.Seq.{getD-set-same, getD-set-other}
 use lib.Signed.{leZ}
-use borrow.Author.Tests.{eq-eqb, eqb-true, le-leb, leb-true, le-ltb}
+use borrow.Author.Tests.{eq-eqb, ne-eqb, eqb-true, eqb-false, le-leb, leb-true, le-ltb}
 use Rattle.matrix.specs.declared.Least.{Least}
 use Rattle.matrix.specs.Range.{sum, bits, total}
 use Rattle.matrix.specs.Integer.{parity, half, equals}
 use Rattle.matrix.specs.Matrix.{Matrix, Same, δ, transpose, replaced, combined, rowProduct, entry, listed}
 use Rattle.matrix.specs.Determinant.{det}
 use Rattle.matrix.specs.Operator.{Operator, operator, SameOperator, Orthogonal, LeastExponent, AllEven, Reduced}
-use Rattle.matrix.specs.Array.{Bounded, everywhere, orthogonalAt, isOrthogonal, isWithin, rowMask, rowWeight, allEven, halved, halfSums, choose, leastForm}
+use Rattle.matrix.specs.Array.{Bounded, everywhere, orthogonalAt, isOrthogonal, isWithin, rowMask, rowWeight, oddAt, beforeOdd, halved, halfSums, choose, leastForm}
 use Rattle.matrix.specs.Laws.Integer.{*ℤ-unit-r, equals-eq, equals-yes, square-size, natAbs-add-le, natAbs-minus-le}
-use Rattle.matrix.specs.Laws.Parity.{half-even, half-sum, half-minus, even-parity, parity-even, parity-lt, natAbs-half}
-use Rattle.matrix.specs.Laws.Range.{every-sound, every-complete, length-tabulate, getD-tabulate, tabulate-is, bits-lt, bit-at, ones-bits}
+use Rattle.matrix.specs.Laws.Parity.{half-even, half-sum, half-minus, even-parity, parity-even, parity-lt, parity-cases, natAbs-half}
+use Rattle.matrix.specs.Laws.Range.{every-sound, every-complete, first-in, first-most, first-passed, length-tabulate, getD-tabulate, tabulate-is, bits-lt, bit-at, ones-bits}
 use Rattle.matrix.specs.Laws.Ring.{var, num, _:+_, _:-_, _:*_, _:=_, _of_, times-by}
 use Rattle.matrix.specs.Laws.Sum.{sum-cong, δ-same, δ-other, δ-sym}
 use Rattle.matrix.specs.Laws.Matrix.{orthogonal-columns}
@@ -176,13 +176,54 @@ equal-parities M N i j h = rw (h 0 (omega arith), h 1 (omega arith), h 2 (omega 
 
 -- ---- even matrices and their halves
 
-pub even-sound : (M : Matrix) → allEven M ≡ true → AllEven M
-unfolding allEven
-even-sound M e i j hi hj = parity-even (M i j) (eqb-true _ _ (everywhere-sound (λ r c. eqb (parity (M r c)) 0) e i j hi hj))
+-- n entries stand before the first odd one
+pub record BeforeOdd (M : Matrix) (n : ℕ) : Type 0 where
+  pub most : n ≤ 36
+  -- all before it are even
+  pub even : (i : ℕ) → i < n → parity (M (i / 6) (i % 6)) ≡ 0
+  -- where there is one, it is odd
+  pub odd : n < 36 → parity (M (n / 6) (n % 6)) ≡ 1
 
-pub even-complete : (M : Matrix) → AllEven M → allEven M ≡ true
-unfolding allEven
-even-complete M h = everywhere-complete (λ r c. eqb (parity (M r c)) 0) (λ r c hr hc. eq-eqb _ _ (even-parity (M r c) (h r c hr hc)))
+pub before-odd : (M : Matrix) → BeforeOdd M (beforeOdd M)
+unfolding beforeOdd
+before-odd M = record {
+  most = first-most (oddAt M) 0 36;
+  even = λ i h. not-odd i (first-passed (oddAt M) 0 36 i (omega arith) h);
+  odd = λ h. eqb-true _ _ (first-in (oddAt M) 0 36 h .holds);
+}
+  where
+    not-odd : (i : ℕ) → oddAt M i ≡ false → parity (M (i / 6) (i % 6)) ≡ 0
+    not-odd i e = elim (parity-cases (M (i / 6) (i % 6))) [ inl z ↦ z | inr z ↦ absurd (eqb-false _ _ e z) ]
+
+-- and of no other number is that true
+pub before-odd-only : (M : Matrix) (n p : ℕ) → BeforeOdd M n → BeforeOdd M p → n ≡ p
+before-odd-only M n p a b = elim (decLt n p) [
+  | yes l ↦ absurd (apart (a .odd (let h = b .most in omega arith)) (b .even n l))
+  | no l ↦ elim (decLt p n) [
+    | yes r ↦ absurd (apart (b .odd (let h = a .most in omega arith)) (a .even p r))
+    | no r ↦ omega arith
+  ]
+]
+  where
+    apart : {x : ℕ} → x ≡ 1 → x ≡ 0 → ⊥
+    apart u v = omega arith
+
+-- 36 exactly if all entries are even
+pub even-sound : (M : Matrix) → beforeOdd M ≡ 36 → AllEven M
+even-sound M e i j hi hj =
+    let p : (i * 6 + j) / 6 ≡ i = omega arith in
+    let q : (i * 6 + j) % 6 ≡ j = omega arith in
+    parity-even (M i j) (rw (p, q) at (before-odd M .even (i * 6 + j) (omega arith)))
+
+pub even-complete : (M : Matrix) → AllEven M → beforeOdd M ≡ 36
+even-complete M h = elim (decLt (beforeOdd M) 36) [
+  | yes l ↦
+    let n = beforeOdd M in
+    let o = before-odd M .odd l in
+    let z = even-parity (M (n / 6) (n % 6)) (h (n / 6) (n % 6) (omega arith) (omega arith)) in
+    absurd (omega arith)
+  | no l ↦ let u = before-odd M .most in omega arith
+]
 
 pub bounded-halved : (b : ℕ) (M : Matrix) → Bounded b M → Bounded b (halved M)
 bounded-halved b M s = record { size = λ r c hr hc. let h = s .size r c hr hc in let e = natAbs-half (M r c) in omega arith }
@@ -199,22 +240,22 @@ bounded-listed b M s = bounded-same b (entry (listed M)) M (entry-listed M) s
 abbrev pub lowered : List ℤ → List ℤ
 lowered m = listed (halved (entry m))
 
-pub lowered-doubles : (m : List ℤ) → allEven (entry m) ≡ true → (i j : ℕ) → i < 6 → j < 6 → entry m i j ≡ entry (lowered m) i j +ℤ entry (lowered m) i j
+pub lowered-doubles : (m : List ℤ) → beforeOdd (entry m) ≡ 36 → (i j : ℕ) → i < 6 → j < 6 → entry m i j ≡ entry (lowered m) i j +ℤ entry (lowered m) i j
 lowered-doubles m e i j hi hj =
     rw (entry-listed (halved (entry m)) i j hi hj) (sym (half-even (entry m i j) (even-parity (entry m i j) (even-sound (entry m) e i j hi hj))))
 
 -- what a loop that lowers keeps
-pub least-turn : (k : ℕ) (m : List ℤ) → 2 ≤ k → allEven (entry m) ≡ true → leastForm k m ≡ leastForm (k - 2) (lowered m)
+pub least-turn : (k : ℕ) (m : List ℤ) → 2 ≤ k → beforeOdd (entry m) ≡ 36 → leastForm k m ≡ leastForm (k - 2) (lowered m)
 unfolding leastForm
 least-turn zero m h e = absurd (omega arith)
 least-turn (suc zero) m h e = absurd (omega arith)
-least-turn (suc (suc k)) m h e = let s : suc (suc k) - 2 ≡ k = omega arith in rw e (ap (λ x. leastForm x (lowered m)) (sym s))
+least-turn (suc (suc k)) m h e = let s : suc (suc k) - 2 ≡ k = omega arith in rw (eq-eqb _ _ e) (ap (λ x. leastForm x (lowered m)) (sym s))
 
-pub least-odd : (k : ℕ) (m : List ℤ) → allEven (entry m) ≡ false → leastForm k m ≡ record { exponent = k; matrix = m }
+pub least-odd : (k : ℕ) (m : List ℤ) → (beforeOdd (entry m) ≢ 36) → leastForm k m ≡ record { exponent = k; matrix = m }
 unfolding leastForm
 least-odd zero m e = refl
 least-odd (suc zero) m e = refl
-least-odd (suc (suc k)) m e = rw e
+least-odd (suc (suc k)) m e = rw (ne-eqb _ _ e)
 
 pub least-small : (k : ℕ) (m : List ℤ) → k < 2 → leastForm k m ≡ record { exponent = k; matrix = m }
 unfolding leastForm
@@ -250,23 +291,20 @@ pub least-form : (k : ℕ) (m : List ℤ) → LeastForm k m (leastForm k m)
 unfolding leastForm
 least-form zero m = itself 0 m (λ e. omega arith)
 least-form (suc zero) m = itself 1 m (λ e. omega arith)
-least-form (suc (suc k)) m = go (allEven (entry m)) refl (least-form k (lowered m))
+least-form (suc (suc k)) m = go (eqb (beforeOdd (entry m)) 36) refl (least-form k (lowered m))
   where
     here : Least
     here = record { exponent = suc (suc k); matrix = m }
 
-    go : (t : Bool) → allEven (entry m) ≡ t → LeastForm k (lowered m) (leastForm k (lowered m)) → LeastForm (suc (suc k)) m (choose t (leastForm k (lowered m)) here)
+    go : (t : Bool) → eqb (beforeOdd (entry m)) 36 ≡ t → LeastForm k (lowered m) (leastForm k (lowered m)) → LeastForm (suc (suc k)) m (choose t (leastForm k (lowered m)) here)
     go true e r = record {
-      same = same-operator-trans (halved-same k (entry m) (entry (lowered m)) (lowered-doubles m e)) (r .same);
+      same = same-operator-trans (halved-same k (entry m) (entry (lowered m)) (lowered-doubles m (eqb-true _ _ e))) (r .same);
       reduced = r .reduced;
       long = λ l. r .long (length-listed (halved (entry m)));
       below = let h = r .below in omega arith;
       bounded = λ b s. r .bounded b (bounded-listed b (halved (entry m)) (bounded-halved b (entry m) s));
     }
-    go false e r = itself (suc (suc k)) m (λ a. absurd (clash (sym (even-complete (entry m) a) ∙ e)))
-      where
-        clash : true ≡ false → ⊥
-        clash e = subst T e tt
+    go false e r = itself (suc (suc k)) m (λ a. absurd (eqb-false _ _ e (even-complete (entry m) a)))
 
 -- of an orthogonal pair it is orthogonal, and its exponent is the least
 pub least-orthogonal : (k : ℕ) (m : List ℤ) → Orthogonal (operator k (entry m)) → Orthogonal (operatorOf (leastForm k m))

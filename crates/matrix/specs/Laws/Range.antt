@@ -106,6 +106,24 @@ unfolding firstFrom
 first-in f a zero h = absurd (omega arith)
 first-in f a (suc k) h = first-step f a k (λ p. first-in f (suc a) k (let u : firstFrom f (suc a) k < a + suc k = rw p at h in omega arith))
 
+-- it ends in the range or right behind it
+pub first-most : (f : ℕ → Bool) (a k : ℕ) → firstFrom f a k ≤ a + k
+unfolding firstFrom
+first-most f a zero = omega arith
+first-most f a (suc k) = go (f a) (first-most f (suc a) k)
+  where
+    go : (t : Bool) → firstFrom f (suc a) k ≤ suc a + k → cond t a (firstFrom f (suc a) k) ≤ a + suc k
+    go true r = omega arith
+    go false r = omega arith
+
+-- and has passed none
+pub first-passed : (f : ℕ → Bool) (a k i : ℕ) → a ≤ i → i < firstFrom f a k → f i ≡ false
+first-passed f a k i l u = go (f i) refl
+  where
+    go : (t : Bool) → f i ≡ t → f i ≡ false
+    go true e = let m = first-most f a k in first-found f a k i e l (omega arith) .earlier i l u
+    go false e = e
+
 pub some-sound : (n : ℕ) (f : ℕ → Bool) → some n f ≡ true → (i : ℕ) × (i < n) × (f i ≡ true)
 some-sound n f e =
     let h : firstFrom f 0 n < n = ltb-true _ _ e in

@@ -12,7 +12,7 @@ use Rattle.matrix.specs.Range.{sum}
 use Rattle.matrix.specs.Integer.{parity, half}
 use Rattle.matrix.specs.Matrix.{Matrix, Same, δ, product, transpose, entry, listed}
 use Rattle.matrix.specs.Operator.{operator, Orthogonal, AllEven, Reduced}
-use Rattle.matrix.specs.Array.{rowMask, allEven, leastForm}
+use Rattle.matrix.specs.Array.{rowMask, leastForm}
 use Rattle.matrix.specs.Laws.Integer.{*ℤ-distr-r, *ℤ-unit-l}
 use Rattle.matrix.specs.Laws.Parity.{parity-add, parity-mul, half-even, even-parity}
 use Rattle.matrix.specs.Laws.Sum.{sum-cong, sum-add}
@@ -31,12 +31,8 @@ even-times M D e i j hi hj = (
 least-reduced : (k : ℕ) (m : List ℤ) → Reduced (operator k (entry m)) → leastForm k m ≡ record { exponent = k; matrix = m }
 least-reduced k m r = elim (decLt k 2) [
   | yes h ↦ least-small k m h
-  | no h ↦ go (allEven (entry m)) refl h
+  | no h ↦ least-odd k m (λ e. h (let s = r .small (even-sound (entry m) e) in omega arith))
 ]
-  where
-    go : (t : Bool) → allEven (entry m) ≡ t → (k < 2 → ⊥) → leastForm k m ≡ record { exponent = k; matrix = m }
-    go true e h = let s : k ≤ 1 = r .small (even-sound (entry m) e) in absurd (omega arith)
-    go false e h = least-odd k m e
 
 -- the parity of a sum of products depends on the parities alone
 parity-sum : (n : ℕ) (a b w : ℕ → ℤ) → ((t : ℕ) → t < n → parity (a t) ≡ parity (b t)) → parity (sum n (λ t. a t *ℤ w t)) ≡ parity (sum n (λ t. b t *ℤ w t))

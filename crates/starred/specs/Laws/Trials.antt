@@ -6,7 +6,7 @@ use Rattle.matrix.specs.Integer.{parity}
 use Rattle.matrix.specs.Range.{sum, everyFrom, firstFrom, tabulate, bits, total}
 use Rattle.matrix.specs.Matrix.{δ, replaced, listed}
 use Rattle.matrix.specs.Determinant.{skip, det}
-use Rattle.matrix.specs.Array.{isOrthogonal, isWithin, rowMask, allEven, leastForm}
+use Rattle.matrix.specs.Array.{isOrthogonal, isWithin, rowMask, beforeOdd, leastForm}
 use Rattle.file.specs.File.{fileMatrix, fileOf}
 use Rattle.clifford.specs.Columns.{isEven, arePermutation, columnByte}
 use Rattle.residue.specs.Generator.{table, place, generator, fits, firstFit}
@@ -21,5 +21,5 @@ use Rattle.order.specs.Order.{nearest, orderAnswer}
 use Rattle.starred.specs.Trials.{trials, allPass}
 
 pub trials-pass : allPass trials ≡ true
-unfolding trials parity sum everyFrom firstFrom tabulate bits total δ replaced listed skip det pow lib.IntN.one isOrthogonal isWithin rowMask allEven leastForm fileMatrix fileOf isEven arePermutation columnByte table place generator fits firstFit groupSize inGroupsOf isLoose generators remainder looseCuts sheetBytes sheet normalForm image productOf leastOf fileRefusal sheetRefusal nearest orderAnswer
+unfolding trials parity sum everyFrom firstFrom tabulate bits total δ replaced listed skip det pow lib.IntN.one isOrthogonal isWithin rowMask beforeOdd leastForm fileMatrix fileOf isEven arePermutation columnByte table place generator fits firstFit groupSize inGroupsOf isLoose generators remainder looseCuts sheetBytes sheet normalForm image productOf leastOf fileRefusal sheetRefusal nearest orderAnswer
 trials-pass = refl
