@@ -5,9 +5,8 @@ use mathlib.Core.List.{List, [], _∷_, _++_}
 use Prim.Native.Nat.{ℕ, _+_, _≤_}
 use lib.Dec.{ltb}
 use lib.ListN.{length}
-use Rattle.matrix.specs.declared.Least.{Least}
 use Rattle.matrix.specs.Matrix.{listed}
-use Rattle.matrix.specs.Array.{leastForm}
+use Rattle.matrix.specs.Array.{Least, leastForm}
 use Rattle.file.specs.declared.Answer.{Answer}
 use Rattle.file.specs.declared.Answer.the-variants.{Count, Refused}
 use Rattle.file.specs.File.{largestExponent, fileLength, fileOf, written}

@@ -6,9 +6,8 @@ use Prim.Native.Nat.{ℕ, _+_, _≤_, _<_}
 use lib.Dec.{ltb}
 use lib.IntN.{ℤ}
 use lib.ListN.{length, getD, drop}
-use Rattle.matrix.specs.declared.Least.{Least}
 use Rattle.matrix.specs.Matrix.{entry, listed, product}
-use Rattle.matrix.specs.Array.{leastForm}
+use Rattle.matrix.specs.Array.{Least, leastForm}
 use Rattle.file.specs.File.{largestExponent, noOperator}
 use Rattle.clifford.specs.Columns.{columnsMatrix, arePermutation}
 use Rattle.letter.specs.declared.Gate.{Gate}

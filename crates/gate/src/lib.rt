@@ -75,10 +75,8 @@ fn read_letter(k: u8, m: [i64; 36], columns: [u8; 6], b: u8) -> Read
         return file::refused(8);
     }
     let before = times::times_columns(m, columns);
-    let product = times::times_cs(before);
-    let least = matrix::least_form(k + 1, product);
-    let exponent = least.exponent;
-    let matrix = least.matrix;
+    let mut matrix = times::times_cs(before);
+    let exponent = matrix::least_form(k + 1, &mut matrix);
     if file::LARGEST_EXPONENT < exponent {
         return file::refused(9);
     }

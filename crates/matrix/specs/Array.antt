@@ -6,7 +6,6 @@ use lib.Dec.{eqb, ltb}
 use lib.IntN.{ℤ, pos, natAbs, _+ℤ_, _-ℤ_, _*ℤ_}
 use lib.ListN.{getD, set}
 use lib.Signed.{leZ}
-use Rattle.matrix.specs.declared.Least.{Least}
 use Rattle.matrix.specs.Range.{every, firstFrom, bits, total}
 use Rattle.matrix.specs.Integer.{parity, half, equals}
 use Rattle.matrix.specs.Matrix.{Matrix, δ, replaced, rowProduct, entry, listed}
@@ -65,9 +64,17 @@ abbrev pub choose : {A : Type 0} → Bool → A → A → A
 choose true x y = x
 choose false x y = y
 
+-- an array with an exponent
+pub record Least : Type 0 where
+  pub exponent : ℕ
+  pub matrix : List ℤ
+
+abbrev pub least : ℕ → List ℤ → Least
+least k m = record { exponent = k; matrix = m }
+
 -- the operator at its least exponent: "where all entries are even and k is at least 2, halving them lowers k by 2"
 unfoldable pub leastForm : ℕ → List ℤ → Least
-leastForm zero m = record { exponent = 0; matrix = m }
-leastForm (suc zero) m = record { exponent = 1; matrix = m }
+leastForm zero m = least 0 m
+leastForm (suc zero) m = least 1 m
 leastForm (suc (suc k)) m =
-    choose (eqb (beforeOdd (entry m)) 36) (leastForm k (listed (halved (entry m)))) (record { exponent = suc (suc k); matrix = m })
+    choose (eqb (beforeOdd (entry m)) 36) (leastForm k (listed (halved (entry m)))) (least (suc (suc k)) m)

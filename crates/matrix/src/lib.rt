@@ -7,13 +7,7 @@ ghost use lib.IntN.{pos, natAbs};
 ghost use lib.ListN.{length, getD};
 ghost use Rattle.matrix.specs.Integer.{parity};
 ghost use Rattle.matrix.specs.Matrix.{entry, listed, rowProduct};
-ghost use Rattle.matrix.specs.Array.{Bounded, rowMask, beforeOdd, halved, halfSums, halfPair, leastForm};
-
-// An operator at its least exponent.
-pub struct Least {
-    pub exponent: u8,
-    pub matrix: [i64; 36],
-}
+ghost use Rattle.matrix.specs.Array.{Bounded, rowMask, beforeOdd, halved, halfSums, halfPair, least, leastForm};
 
 // The product of rows i and j.
 pub fn row_product(m: &[i64; 36], i: usize, j: usize) -> i64
@@ -55,16 +49,15 @@ pub fn before_odd(m: &[i64; 36]) -> usize
 }
 
 // Every entry halved.
-pub fn halve(m: [i64; 36]) -> [i64; 36]
-    ensures { λ r. ⌜ r ≡ listed (halved (entry m)) ⌝ }
+fn halve(m: &mut [i64; 36])
+    requires { ⌜ length (now m) ≡ 36 ⌝ }
+    ensures { λ r. ⌜ now (m .exit) ≡ listed (halved (entry (now (m .entry)))) ⌝ }
 {
-    let mut out = [0i64; 36];
     let mut n = 0usize;
     while n < 36 {
-        out[n] = m[n] / 2;
+        m[n] = m[n] / 2;
         n += 1;
     }
-    out
 }
 
 // The odd entries of row r as bits, that of column 0 lowest.
@@ -81,21 +74,20 @@ pub fn row_mask(m: &[i64; 36], r: usize) -> u8
     mask
 }
 
-// (k, m) at its least exponent.
-pub fn least_form(k: u8, m: [i64; 36]) -> Least
-    ensures { λ r. ⌜ r ≡ leastForm k m ⌝ }
+// (k, m) brought to its least exponent, which is answered.
+pub fn least_form(k: u8, m: &mut [i64; 36]) -> u8
+    requires { ⌜ length (now m) ≡ 36 ⌝ }
+    ensures { λ r. ⌜ least r (now (m .exit)) ≡ leastForm k (now (m .entry)) ⌝ }
 {
     let mut exponent = k;
-    let mut matrix = m;
     while 2 <= exponent {
-        if before_odd(&matrix) != 36 {
-            return Least { exponent, matrix };
+        if before_odd(m) != 36 {
+            return exponent;
         }
-        let half = halve(matrix);
-        matrix = half;
+        halve(m);
         exponent -= 2;
     }
-    Least { exponent, matrix }
+    exponent
 }
 
 // The entries x at p and y at q replaced by half of x + y and half of y - x.

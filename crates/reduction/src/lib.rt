@@ -86,7 +86,7 @@ pub fn normal_form(k: u8, m: [i64; 36]) -> Normal
     requires { ⌜ (k ≤ 60) × Orthogonal (operator k (entry m)) ⌝ }
     ensures { λ r. ⌜ WholeOf k m r ⌝ }
 {
-    let least = matrix::least_form(k, m);
-    let matrix = least.matrix;
-    reduce(least.exponent, matrix)
+    let mut matrix = m;
+    let exponent = matrix::least_form(k, &mut matrix);
+    reduce(exponent, matrix)
 }

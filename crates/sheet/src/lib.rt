@@ -62,9 +62,8 @@ fn cut_again(bytes: &[u8], count: u8, m: [i64; 36]) -> Read
     if !is_sheet(bytes, t, numbers, columns) {
         return file::refused(13);
     }
-    let least = matrix::least_form(count, m);
-    let exponent = least.exponent;
-    let matrix = least.matrix;
+    let mut matrix = m;
+    let exponent = matrix::least_form(count, &mut matrix);
     Read {
         refusal: 0,
         exponent,

@@ -5,11 +5,10 @@ use mathlib.Core.Path.{_≡_}
 use Prim.Native.Nat.{ℕ, _+_, _-_}
 use lib.Dec.{eqb, leb, ltb}
 use lib.ListN.{length, getD, drop}
-use Rattle.matrix.specs.declared.Least.{Least}
 use Rattle.matrix.specs.List.{sameList}
 use Rattle.matrix.specs.Range.{every}
 use Rattle.matrix.specs.Matrix.{listed}
-use Rattle.matrix.specs.Array.{leastForm}
+use Rattle.matrix.specs.Array.{Least, leastForm}
 use Rattle.clifford.specs.Columns.{areColumnBytes, arePermutation, isEven, isMinus}
 use Rattle.sheet_bytes.specs.Bytes.{shortest, longest, sheetOf, sheetColumns, sheetSign, sheetOperator}
 

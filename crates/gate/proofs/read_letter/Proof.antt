@@ -8,9 +8,8 @@ use lib.Dec.{ltb}
 use lib.IntN.{ℤ}
 use borrow.Author.Needs.{needs}
 use borrow.Author.Tests.{lt-ltb, le-ltb}
-use Rattle.matrix.specs.declared.Least.{Least}
 use Rattle.matrix.specs.Matrix.{entry, listed, product}
-use Rattle.matrix.specs.Array.{leastForm}
+use Rattle.matrix.specs.Array.{Least, least, leastForm}
 use Rattle.matrix.specs.Laws.Array.{orthogonal-bounded}
 use Rattle.file.specs.File.{largestExponent, noOperator}
 use Rattle.residue.specs.Generator.{generator}
@@ -43,11 +42,12 @@ module _ (k : ℕ) (m : List ℤ) (b : ℕ) (is : b ≡ 67) (f : Least) (e : f �
   shallow h = rw (known, test false (le-ltb largestExponent (f .exponent) h)) (ap (λ (x : Least). record { refusal = 0; exponent = x .exponent; matrix = x .matrix }) more)
 
 -- the product, of what is known after it was brought to its least exponent
-product-is : (c : tie.After-least-form) → let s = c .before .before .before .before in
-    c .least-form .result ≡ leastForm (s .args .k + 1) (listed (product 6 (entry (timesColumns (s .args .m) (s .args .columns))) (generator 3)))
+product-is : (c : tie.After-least-form) → let s = c .before .before .before .before .before in
+    least (c .least-form .result) (c .least-form .last .1 .0) ≡ leastForm (s .args .k + 1) (listed (product 6 (entry (timesColumns (s .args .m) (s .args .columns))) (generator 3)))
 product-is c =
-    let s = c .before .before .before .before in
-    c .least-form .ensures ∙ ap (leastForm (s .args .k + 1)) (c .before .times-cs .ensures ∙ ap (λ x. listed (product 6 (entry x) (generator 3))) (c .before .before .times-columns .ensures))
+    let s = c .before .before .before .before .before in
+    c .least-form .ensures
+    ∙ ap (leastForm (s .args .k + 1)) (c .before .before .times-cs .ensures ∙ ap (λ x. listed (product 6 (entry x) (generator 3))) (c .before .before .before .times-columns .ensures))
 
 refused-requires : tie.Need-refused-requires
 refused-requires c κs = search needs
@@ -79,15 +79,15 @@ refused-requires-2 c κs = search needs
 
 returns-2 : tie.Need-returns-2
 returns-2 c =
-    let p = c .before .before .before in
-    let s = p .before .before .before .before in
-    c .refused2 .ensures ∙ deep (s .args .k) (timesColumns (s .args .m) (s .args .columns)) (s .args .b) (omega arith) (p .least-form .result) (product-is p) (c .before .if2 .taken)
+    let p = c .before .before in
+    let s = p .before .before .before .before .before in
+    c .refused2 .ensures ∙ deep (s .args .k) (timesColumns (s .args .m) (s .args .columns)) (s .args .b) (omega arith) _ (product-is p) (c .before .if2 .taken)
 
 returns-3 : tie.Need-returns-3
 returns-3 c =
-    let p = c .before .before in
-    let s = p .before .before .before .before in
-    shallow (s .args .k) (timesColumns (s .args .m) (s .args .columns)) (s .args .b) (omega arith) (p .least-form .result) (product-is p) (c .if2 .left)
+    let p = c .before in
+    let s = p .before .before .before .before .before in
+    shallow (s .args .k) (timesColumns (s .args .m) (s .args .columns)) (s .args .b) (omega arith) _ (product-is p) (c .if2 .left)
 
 pub read-letter-spec : {M : Type 1} → statement M
 read-letter-spec =

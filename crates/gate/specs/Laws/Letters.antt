@@ -8,10 +8,9 @@ use native.Mathlib.Omega.{arith}
 use lib.IntN.{ℤ}
 use lib.ListN.{length, getD, drop}
 use lib.Seq.{drop-cons, drop-length}
-use Rattle.matrix.specs.declared.Least.{Least}
 use Rattle.matrix.specs.Matrix.{δ, entry, listed}
 use Rattle.matrix.specs.Operator.{operator, Orthogonal}
-use Rattle.matrix.specs.Array.{leastForm}
+use Rattle.matrix.specs.Array.{Least, leastForm}
 use Rattle.matrix.specs.Laws.Array.{operatorOf}
 use Rattle.file.specs.declared.Read.{Read}
 use Rattle.file.specs.File.{largestExponent}

@@ -12,10 +12,9 @@ use lib.IntN.{ℤ}
 use lib.ListN.{length, getD, drop}
 use lib.Seq.{drop-cons}
 use borrow.Author.Tests.{ltb-false, le-ltb}
-use Rattle.matrix.specs.declared.Least.{Least}
 use Rattle.matrix.specs.Matrix.{entry, listed, product}
 use Rattle.matrix.specs.Operator.{Operator, operator, timesOperator, SameOperator, Orthogonal}
-use Rattle.matrix.specs.Array.{leastForm}
+use Rattle.matrix.specs.Array.{Least, leastForm}
 use Rattle.matrix.specs.Laws.Matrix.{same-refl, product-cong, product-assoc, product-id-r}
 use Rattle.matrix.specs.Laws.Operator.{same-operator-refl, same-operator-sym, same-operator-trans, same-operator-of, times-same, times-orthogonal, same-orthogonal}
 use Rattle.matrix.specs.Laws.Array.{operatorOf, entry-listed, listed-is, listed-cong, listed-same, length-listed, same-least-form}

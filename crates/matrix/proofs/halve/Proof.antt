@@ -1,11 +1,11 @@
--- The invariant: the elements of `out` before n are the halves.
+-- The invariant: the elements before n are halved, and from n on they are as they were.
 use mathlib.Core.Path.{_≡_, refl, sym, ap, _∙_}
 use Prim.Native.Nat.{ℕ, _-_, _/_, _%_, _≤_}
 use native.Mathlib.Omega.{arith}
 use mathlib.Core.List.{List}
 use lib.Dec.{lit<}
 use lib.IntN.{ℤ, pos}
-use lib.ListN.{getD}
+use lib.ListN.{length, getD}
 use mir.Syntax.{w64}
 use mir.Val.{SFits}
 use mir.Facts.{toZ-ofZ}
@@ -17,6 +17,7 @@ use Rattle.matrix.specs.Laws.Range.{Filled, filled-none, filled-more, fi
 use Rattle.matrix.specs.Laws.Array.{entry-flat}
 use Rattle.matrix.specs.Laws.Machine.{fits-half}
 use borrow.Author.Needs.{needs}
+use denote.Ref.{now}
 use Rattle.matrix.proofs.halve.Statement.{statement}
 use Rattle.matrix.proofs.halve.Tie as tie
 
@@ -24,30 +25,31 @@ abbrev half-at : List ℤ → ℕ → ℤ
 half-at m n = halved (entry m) (n / 6) (n % 6)
 
 abbrev Inv-loop : tie.InvT-loop
-Inv-loop m out₀ n₀ out n = (n ≤ 36) × Filled (pos 0) (half-at m) out₀ n out
+Inv-loop m₀ n₀ m n = (n ≤ 36) × (length m₀ ≡ 36) × Filled (pos 0) (half-at m₀) m₀ n m
 
 abbrev μ-loop : tie.MeasureT-loop
-μ-loop m out₀ n₀ out n = 36 - n
+μ-loop m₀ n₀ m n = 36 - n
 
 loop-holds : tie.Need-loop-holds Inv-loop μ-loop
-loop-holds c = (search needs, filled-none _ _ _)
+loop-holds c = (search needs, c .pre, filled-none _ _ _)
 
-mul-out : tie.Need-mul-out Inv-loop μ-loop
-mul-out c = search needs
+mul-m : tie.Need-mul-m Inv-loop μ-loop
+mul-m c = search needs
 
-array-copy-out-out : tie.Need-array-copy-out-out Inv-loop μ-loop
-array-copy-out-out c = search needs
+element-copy-out-m : tie.Need-element-copy-out-m Inv-loop μ-loop
+element-copy-out-m c = search needs
 
-div-out : tie.Need-div-out Inv-loop μ-loop
-div-out c =
-    let f : SFits w64 (getD (c .before .before .before .args .t1) (c .before .before .loop .n) (pos 0)) = sfits-of (c .out .given) in
+div-m : tie.Need-div-m Inv-loop μ-loop
+div-m c =
+    let l = c .before .before in
+    let f : SFits w64 (getD (l .loop .m) (l .loop .n) (pos 0)) = sfits-of (c .m .given) in
     (lit< tt, rw (toZ-ofZ f) (fits-half _ f))
 
-mul-out-2 : tie.Need-mul-out-2 Inv-loop μ-loop
-mul-out-2 c = search needs
+mul-t9 : tie.Need-mul-t9 Inv-loop μ-loop
+mul-t9 c = search needs
 
-array-set-from-out : tie.Need-array-set-from-out Inv-loop μ-loop
-array-set-from-out c = search needs
+element-set-from-m : tie.Need-element-set-from-m Inv-loop μ-loop
+element-set-from-m c = search needs
 
 add-n : tie.Need-add-n Inv-loop μ-loop
 add-n c = search needs
@@ -58,15 +60,20 @@ loop-less c = search needs
 loop-again : tie.Need-loop-again Inv-loop μ-loop
 loop-again c =
     let l = c .before .before in
-    let m = l .before .args .t1 in
-    let f : SFits w64 (getD m (l .loop .n) (pos 0)) = sfits-of (c .out .given) in
-    (search needs, filled-more _ _ _ (l .loop .n) (l .loop .out) _ (l .loop .inv .1) (omega arith) (rw (toZ-ofZ f) (toZ-ofZ (fits-half _ f)) ∙ ap half (sym (entry-flat m (l .loop .n)))))
+    let m = now (l .before .args .m) in
+    let f : SFits w64 (getD (l .loop .m) (l .loop .n) (pos 0)) = sfits-of (c .m .given) in
+    let w = l .loop .inv .2 in (
+      search needs,
+      l .loop .inv .1,
+      filled-more _ _ _ (l .loop .n) (l .loop .m) _ w (omega arith)
+          (rw (toZ-ofZ f) (toZ-ofZ (fits-half _ f)) ∙ ap half (w .back (l .loop .n) (omega arith) ∙ sym (entry-flat m (l .loop .n)))),
+    )
 
 returns : tie.Need-returns Inv-loop μ-loop
 unfolding listed
 returns c =
     let e : c .before .loop .n ≡ 36 = omega arith in
-    filled-all _ _ _ 36 _ (rw e at (c .before .loop .inv .1)) refl
+    filled-all _ _ _ 36 _ (rw e at (c .before .loop .inv .2)) (sym (c .before .loop .inv .1))
 
 pub halve-spec : {M : Type 1} → statement M
 halve-spec =
@@ -75,11 +82,11 @@ halve-spec =
     Inv-loop
     μ-loop
     loop-holds
-    mul-out
-    array-copy-out-out
-    div-out
-    mul-out-2
-    array-set-from-out
+    mul-m
+    element-copy-out-m
+    div-m
+    mul-t9
+    element-set-from-m
     add-n
     loop-less
     loop-again

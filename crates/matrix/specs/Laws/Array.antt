@@ -13,13 +13,12 @@ use lib.ListN.{length, getD, set}
 use lib.Seq.{getD-set-same, getD-set-other}
 use lib.Signed.{leZ}
 use borrow.Author.Tests.{eq-eqb, ne-eqb, eqb-true, eqb-false, le-leb, leb-true, le-ltb}
-use Rattle.matrix.specs.declared.Least.{Least}
 use Rattle.matrix.specs.Range.{sum, bits, total}
 use Rattle.matrix.specs.Integer.{parity, half, equals}
 use Rattle.matrix.specs.Matrix.{Matrix, Same, δ, transpose, replaced, combined, rowProduct, entry, listed}
 use Rattle.matrix.specs.Determinant.{det}
 use Rattle.matrix.specs.Operator.{Operator, operator, SameOperator, Orthogonal, LeastExponent, AllEven, Reduced}
-use Rattle.matrix.specs.Array.{Bounded, everywhere, orthogonalAt, isOrthogonal, isWithin, rowMask, rowWeight, oddAt, beforeOdd, halved, halfSums, choose, leastForm}
+use Rattle.matrix.specs.Array.{Bounded, everywhere, orthogonalAt, isOrthogonal, isWithin, rowMask, rowWeight, oddAt, beforeOdd, halved, halfSums, choose, Least, least, leastForm}
 use Rattle.matrix.specs.Laws.Integer.{*ℤ-unit-r, equals-eq, equals-yes, square-size, natAbs-add-le, natAbs-minus-le}
 use Rattle.matrix.specs.Laws.Parity.{half-even, half-sum, half-minus, even-parity, parity-even, parity-lt, parity-cases, natAbs-half}
 use Rattle.matrix.specs.Laws.Range.{every-sound, every-complete, first-in, first-most, first-passed, length-tabulate, getD-tabulate, tabulate-is, bits-lt, bit-at, ones-bits}
@@ -218,10 +217,10 @@ even-sound M e i j hi hj =
 pub even-complete : (M : Matrix) → AllEven M → beforeOdd M ≡ 36
 even-complete M h = elim (decLt (beforeOdd M) 36) [
   | yes l ↦
-    let n = beforeOdd M in
-    let o = before-odd M .odd l in
-    let z = even-parity (M (n / 6) (n % 6)) (h (n / 6) (n % 6) (omega arith) (omega arith)) in
-    absurd (omega arith)
+      let n = beforeOdd M in
+      let o = before-odd M .odd l in
+      let z = even-parity (M (n / 6) (n % 6)) (h (n / 6) (n % 6) (omega arith) (omega arith)) in
+      absurd (omega arith)
   | no l ↦ let u = before-odd M .most in omega arith
 ]
 
@@ -251,13 +250,13 @@ least-turn zero m h e = absurd (omega arith)
 least-turn (suc zero) m h e = absurd (omega arith)
 least-turn (suc (suc k)) m h e = let s : suc (suc k) - 2 ≡ k = omega arith in rw (eq-eqb _ _ e) (ap (λ x. leastForm x (lowered m)) (sym s))
 
-pub least-odd : (k : ℕ) (m : List ℤ) → (beforeOdd (entry m) ≢ 36) → leastForm k m ≡ record { exponent = k; matrix = m }
+pub least-odd : (k : ℕ) (m : List ℤ) → (beforeOdd (entry m) ≢ 36) → leastForm k m ≡ least k m
 unfolding leastForm
 least-odd zero m e = refl
 least-odd (suc zero) m e = refl
 least-odd (suc (suc k)) m e = rw (ne-eqb _ _ e)
 
-pub least-small : (k : ℕ) (m : List ℤ) → k < 2 → leastForm k m ≡ record { exponent = k; matrix = m }
+pub least-small : (k : ℕ) (m : List ℤ) → k < 2 → leastForm k m ≡ least k m
 unfolding leastForm
 least-small zero m h = refl
 least-small (suc zero) m h = refl
@@ -278,7 +277,7 @@ pub record LeastForm (k : ℕ) (m : List ℤ) (l : Least) : Type 0 where
   pub below : l .exponent ≤ k
   pub bounded : (b : ℕ) → Bounded b (entry m) → Bounded b (entry (l .matrix))
 
-itself : (k : ℕ) (m : List ℤ) → (AllEven (entry m) → k ≤ 1) → LeastForm k m (record { exponent = k; matrix = m })
+itself : (k : ℕ) (m : List ℤ) → (AllEven (entry m) → k ≤ 1) → LeastForm k m (least k m)
 itself k m h = record {
   same = same-operator-refl (operator k (entry m));
   reduced = record { small = h };
@@ -294,7 +293,7 @@ least-form (suc zero) m = itself 1 m (λ e. omega arith)
 least-form (suc (suc k)) m = go (eqb (beforeOdd (entry m)) 36) refl (least-form k (lowered m))
   where
     here : Least
-    here = record { exponent = suc (suc k); matrix = m }
+    here = least (suc (suc k)) m
 
     go : (t : Bool) → eqb (beforeOdd (entry m)) 36 ≡ t → LeastForm k (lowered m) (leastForm k (lowered m)) → LeastForm (suc (suc k)) m (choose t (leastForm k (lowered m)) here)
     go true e r = record {

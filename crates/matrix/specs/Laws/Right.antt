@@ -12,7 +12,7 @@ use Rattle.matrix.specs.Range.{sum}
 use Rattle.matrix.specs.Integer.{parity, half}
 use Rattle.matrix.specs.Matrix.{Matrix, Same, δ, product, transpose, entry, listed}
 use Rattle.matrix.specs.Operator.{operator, Orthogonal, AllEven, Reduced}
-use Rattle.matrix.specs.Array.{rowMask, leastForm}
+use Rattle.matrix.specs.Array.{rowMask, least, leastForm}
 use Rattle.matrix.specs.Laws.Integer.{*ℤ-distr-r, *ℤ-unit-l}
 use Rattle.matrix.specs.Laws.Parity.{parity-add, parity-mul, half-even, even-parity}
 use Rattle.matrix.specs.Laws.Sum.{sum-cong, sum-add}
@@ -28,7 +28,7 @@ even-times M D e i j hi hj = (
 )
 
 -- a reduced pair is its own least form
-least-reduced : (k : ℕ) (m : List ℤ) → Reduced (operator k (entry m)) → leastForm k m ≡ record { exponent = k; matrix = m }
+least-reduced : (k : ℕ) (m : List ℤ) → Reduced (operator k (entry m)) → leastForm k m ≡ least k m
 least-reduced k m r = elim (decLt k 2) [
   | yes h ↦ least-small k m h
   | no h ↦ least-odd k m (λ e. h (let s = r .small (even-sound (entry m) e) in omega arith))
@@ -73,7 +73,7 @@ module _ (D : Matrix) (d : Orthogonal (operator 0 D)) where
       off = mask-cong (product 6 (product 6 M D) (transpose D)) M (taken-off M)
 
   -- and the product of a pair that cannot be halved cannot be halved either, and is its own least form
-  pub least-right : (k : ℕ) (M : Matrix) → Reduced (operator k M) → leastForm k (listed (product 6 M D)) ≡ record { exponent = k; matrix = listed (product 6 M D) }
+  pub least-right : (k : ℕ) (M : Matrix) → Reduced (operator k M) → leastForm k (listed (product 6 M D)) ≡ least k (listed (product 6 M D))
   least-right k M r =
       least-reduced k (listed (product 6 M D))
       (record {

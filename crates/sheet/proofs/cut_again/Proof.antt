@@ -9,11 +9,10 @@ use lib.IntN.{ℤ}
 use lib.ListN.{take, replicate}
 use lib.Seq.{take-at}
 use denote.Ref.{now}
-use Rattle.matrix.specs.declared.Least.{Least}
 use Rattle.matrix.specs.List.{sameList}
 use Rattle.matrix.specs.Matrix.{entry}
 use Rattle.matrix.specs.Operator.{operator, Orthogonal}
-use Rattle.matrix.specs.Array.{leastForm}
+use Rattle.matrix.specs.Array.{Least, leastForm}
 use Rattle.matrix.specs.Laws.Test.{true-T}
 use Rattle.matrix.specs.Laws.Array.{least-form}
 use Rattle.clifford.specs.Columns.{columnBytes}
@@ -80,7 +79,7 @@ returns-2 : tie.Need-returns-2
 returns-2 c =
     let n = c .before .before .before .before .before .before .before in
     let s = n .before .before in
-    the-same (now (s .args .bytes)) (s .args .count) (s .args .m) (s .pre .1) (n .normal-form .result) (n .normal-form .ensures) _ (c .before .before .before .before .columns-of .ensures) _ (c .before .before .before .is-sheet .ensures) (c .before .before .if1 .left) (c .before .least-form .result) (c .before .least-form .ensures)
+    the-same (now (s .args .bytes)) (s .args .count) (s .args .m) (s .pre .1) (n .normal-form .result) (n .normal-form .ensures) _ (c .before .before .before .before .columns-of .ensures) _ (c .before .before .before .is-sheet .ensures) (c .before .before .if1 .left) _ (c .least-form .ensures)
 
 pub cut-again-spec : {M : Type 1} → statement M
 cut-again-spec =
