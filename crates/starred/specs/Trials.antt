@@ -1,5 +1,5 @@
 -- Document 01's trial cuts that are marked to be proved of the definitions, with the first byte of document 02, P4, the last byte of P2 and the
--- L of P3; these requests' own cases, and the orders of P1: a table of cases, and the test that each passes.
+-- L of P3; these requests' own cases, the orders of P1 and the walks of P6: a table of cases, and the test that each passes.
 use mathlib.Core.Bool.{Bool, true, false, _&&_}
 use mathlib.Core.List.{List, [], _∷_}
 use Prim.Native.Nat.{ℕ}
@@ -8,6 +8,7 @@ use lib.IntN.{pos, negsuc, _*ℤ_}
 use lib.ListN.{replicate}
 use Rattle.matrix.specs.List.{sameList}
 use Rattle.matrix.specs.Matrix.{Matrix, δ, replaced, listed}
+use Rattle.matrix.specs.Array.{beforeOdd}
 use Rattle.file.specs.declared.Answer.{Answer}
 use Rattle.file.specs.declared.Answer.the-variants.{Count, Refused}
 use Rattle.file.specs.File.{fileOf}
@@ -35,6 +36,8 @@ pub data Trial : Type 0 where
   equals : List Gate → ℕ → Matrix → Trial
   -- this count and this spoilage order so many states
   orders : ℕ → ℕ → ℕ → Trial
+  -- so many entries of this matrix stand before the first odd one
+  walks : Matrix → ℕ → Trial
 
 -- whether an answer is this count, or figure
 abbrev counts : Answer → ℕ → Bool
@@ -49,6 +52,7 @@ passes (sheetRefused s n) = eqb (sheetRefusal s) n
 passes (multiplies w s l) = sameList (sheetOf (productOf w)) s && eqb (fileLoose (productFile w)) l
 passes (equals w k M) = sameList (productFile w) (fileOf k (listed M))
 passes (orders t p n) = counts (orderAnswer t p) n
+passes (walks M n) = eqb (beforeOdd M) n
 
 abbrev pub allPass : List Trial → Bool
 allPass [] = true
@@ -57,7 +61,8 @@ allPass (t ∷ ts) = passes t && allPass ts
 -- the identity; twice the identity, k 2; twice the product of `CHC`, k 4; two sheets that earn 13; a last byte above 1, also of a sheet that
 -- would earn 13; a negative column 1; columns that are no Clifford; the sheet of `CHC` without its first byte, and without its last one too; a
 -- first byte for a longer sheet, also of a sheet that would earn 11; seven bytes and 37, whose first byte fits them; the identity with −1 in
--- row 1; `C`; `CC` and `Z`; `HH`, which is the identity; `ZZ`, which is its negative; eight `C`, which are the identity, count 0; `CHC`; the orders
+-- row 1; `C`; `CC` and `Z`; `HH`, which is the identity; `ZZ`, which is its negative; eight `C`, which are the identity, count 0; `CHC`; the orders;
+-- the walks: the identity, twice the identity, and that with 1 as its last entry and with −1 in row 2
 unfoldable pub trials : List Trial
 trials =
     cuts 0 δ (64 ∷ 1 ∷ 2 ∷ 3 ∷ 4 ∷ 5 ∷ 6 ∷ 0 ∷ []) 0 ∷
@@ -91,4 +96,8 @@ trials =
     orders 28 1000 56 ∷
     orders 1 500 1 ∷
     orders 3 500 5 ∷
+    walks δ 0 ∷
+    walks (λ r c. pos 2 *ℤ δ r c) 36 ∷
+    walks (replaced 5 (λ c. δ 5 c) (λ r c. pos 2 *ℤ δ r c)) 35 ∷
+    walks (replaced 1 (λ c. negsuc 0 *ℤ δ 1 c) (λ r c. pos 2 *ℤ δ r c)) 7 ∷
     []

@@ -56,7 +56,7 @@ loop-again c =
 
 returns-2 : tie.Need-returns-2 Inv-loop μ-loop
 unfolding firstFrom
-returns-2 c = let e : 36 - c .before .loop .n ≡ 0 = omega arith in sym (c .before .loop .inv .1 ∙ rw e)
+returns-2 c = let e : c .before .loop .n ≡ 36 = omega arith in sym (rw e at (c .before .loop .inv .1))
 
 pub before-odd-spec : {M : Type 1} → statement M
 before-odd-spec =

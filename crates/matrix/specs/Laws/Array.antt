@@ -195,17 +195,18 @@ before-odd M = record {
     not-odd i e = elim (parity-cases (M (i / 6) (i % 6))) [ inl z ↦ z | inr z ↦ absurd (eqb-false _ _ e z) ]
 
 -- and of no other number is that true
-pub before-odd-only : (M : Matrix) (n p : ℕ) → BeforeOdd M n → BeforeOdd M p → n ≡ p
-before-odd-only M n p a b = elim (decLt n p) [
-  | yes l ↦ absurd (apart (a .odd (let h = b .most in omega arith)) (b .even n l))
-  | no l ↦ elim (decLt p n) [
-    | yes r ↦ absurd (apart (b .odd (let h = a .most in omega arith)) (a .even p r))
-    | no r ↦ omega arith
-  ]
-]
+pub before-odd-only : (M : Matrix) (n : ℕ) → BeforeOdd M n → n ≡ beforeOdd M
+before-odd-only M n a =
+    let b = before-odd M in
+    let u = not-less n (beforeOdd M) a b in
+    let v = not-less (beforeOdd M) n b a in
+    omega arith
   where
-    apart : {x : ℕ} → x ≡ 1 → x ≡ 0 → ⊥
-    apart u v = omega arith
+    not-less : (n p : ℕ) → BeforeOdd M n → BeforeOdd M p → n < p → ⊥
+    not-less n p a b l =
+        let o = a .odd (let h = b .most in omega arith) in
+        let e = b .even n l in
+        omega arith
 
 -- 36 exactly if all entries are even
 pub even-sound : (M : Matrix) → beforeOdd M ≡ 36 → AllEven M
