@@ -35,6 +35,7 @@ pub fn parity_of(x: i64) -> u8
 }
 
 // How many entries, row by row, stand before the first odd one: 36 if all are even.
+// Wrong, and refused: the last odd entry's place; the first odd entry counted too; 35 if all are even.
 pub fn before_odd(m: &[i64; 36]) -> usize
     ensures { λ r. ⌜ r ≡ beforeOdd (entry (now (m .entry))) ⌝ }
 {
@@ -75,6 +76,7 @@ pub fn row_mask(m: &[i64; 36], r: usize) -> u8
 }
 
 // (k, m) brought to its least exponent, which is answered.
+// Wrong, and refused: an exponent lower by one for each halving; an operator halved whose last entry is odd.
 pub fn least_form(k: u8, m: &mut [i64; 36]) -> u8
     requires { ⌜ length (now m) ≡ 36 ⌝ }
     ensures { λ r. ⌜ least r (now (m .exit)) ≡ leastForm k (now (m .entry)) ⌝ }
