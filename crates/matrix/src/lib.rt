@@ -50,7 +50,7 @@ pub fn before_odd(m: &[i64; 36]) -> usize
 }
 
 // Every entry halved.
-fn halve(m: &mut [i64; 36])
+pub fn halve(m: &mut [i64; 36])
     requires { ⌜ length (now m) ≡ 36 ⌝ }
     ensures { λ r. ⌜ now (m .exit) ≡ listed (halved (entry (now (m .entry)))) ⌝ }
 {

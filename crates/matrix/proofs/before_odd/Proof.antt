@@ -1,6 +1,6 @@
 -- The invariant: the entries before n are even, so the first odd one is among those from n on.
 use mathlib.Core.Path.{_≡_, refl, sym, ap, _∙_}
-use Prim.Native.Nat.{_-_, _≤_}
+use Prim.Native.Nat.{_-_, _/_, _%_, _≤_}
 use native.Mathlib.Omega.{arith}
 use borrow.Author.Needs.{needs}
 use denote.Ref.{now}
@@ -34,12 +34,17 @@ element-copy-out-parity-of c = search needs
 parity-of-requires : tie.Need-parity-of-requires Inv-loop μ-loop
 parity-of-requires c κs = search needs
 
+-- what the call of a turn answers
+tested : (c : tie.After-parity-of Inv-loop μ-loop) → let l = c .before .before .before in
+    c .parity-of .result ≡ parity (entry (now (l .before .args .m)) (l .loop .n / 6) (l .loop .n % 6))
+tested c =
+    let l = c .before .before .before in
+    c .parity-of .ensures ∙ ap parity (kept (c .before .parity-of-arg .given) ∙ sym (entry-flat (now (l .before .args .m)) (l .loop .n)))
+
 returns : tie.Need-returns Inv-loop μ-loop
 returns c =
     let l = c .before .before .before .before in
-    let m = now (l .before .args .m) in
-    let q = c .before .parity-of .ensures ∙ ap parity (kept (c .before .before .parity-of-arg .given) ∙ sym (entry-flat m (l .loop .n))) in
-    sym (l .loop .inv .1 ∙ first-here (oddAt (entry m)) 36 (l .loop .n) (omega arith) (eq-eqb _ _ (sym q ∙ c .if1 .taken)))
+    sym (l .loop .inv .1 ∙ first-here _ 36 (l .loop .n) (omega arith) (eq-eqb _ _ (sym (tested (c .before)) ∙ c .if1 .taken)))
 
 add-n : tie.Need-add-n Inv-loop μ-loop
 add-n c = search needs
@@ -50,9 +55,7 @@ loop-less c = search needs
 loop-again : tie.Need-loop-again Inv-loop μ-loop
 loop-again c =
     let l = c .before .before .before .before in
-    let m = now (l .before .args .m) in
-    let q = c .before .parity-of .ensures ∙ ap parity (kept (c .before .before .parity-of-arg .given) ∙ sym (entry-flat m (l .loop .n))) in
-    (search needs, l .loop .inv .1 ∙ first-next (oddAt (entry m)) 36 (l .loop .n) (omega arith) (ne-eqb _ _ (λ z. c .if1 .left (q ∙ z))))
+    (search needs, l .loop .inv .1 ∙ first-next _ 36 (l .loop .n) (omega arith) (ne-eqb _ _ (λ z. c .if1 .left (tested (c .before) ∙ z))))
 
 returns-2 : tie.Need-returns-2 Inv-loop μ-loop
 unfolding firstFrom
