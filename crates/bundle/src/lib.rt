@@ -1,0 +1,134 @@
+// Sheets taken out of a bundle: refusals 20, 21 and 22. The contracts cite specs/Bundle.antt.
+
+ghost use mathlib.Core.Path.{_≡_};
+ghost use Prim.Native.Nat.{_+_, _*_, _-_, _<_, _≤_};
+ghost use lib.ListN.{length, getD};
+ghost use Rattle.bundle.specs.Bundle.{bundleRefusal, hasSheets, mostSheets, offset as Bundle·offset, partOf, sheetCount, sheetIn, trailerLength, twoAt};
+
+// The most sheets of a bundle.
+pub const MOST_SHEETS: usize = 512;
+
+// The least first byte of a sheet, and what a first byte is above the sheet's length.
+pub const LEAST_FIRST: u8 = 64;
+
+const ABOVE_LENGTH: u8 = 56;
+
+// Where a sheet stands in a bundle: its first byte and its length, or the refusal's number.
+pub enum Part {
+    At { start: usize, length: usize },
+    Refused(u8),
+}
+
+// The byte at a place, 0 past the end.
+pub fn byte_at(bytes: &[u8], at: usize) -> u8
+    ensures { λ r. ⌜ r ≡ getD (now (bytes .entry)) at 0 ⌝ }
+{
+    if at < bytes.len() {
+        return bytes[at];
+    }
+    0
+}
+
+// The length of a sheet, by its first byte.
+pub fn sheet_length(first: u8) -> usize
+    requires { ⌜ 64 ≤ first ⌝ }
+    ensures { λ r. ⌜ (r ≡ first - 56) × (r < 200) ⌝ }
+{
+    (first - ABOVE_LENGTH) as usize
+}
+
+// The number of 16 bits that two bytes are.
+fn two(lo: u8, hi: u8) -> usize
+    ensures { λ r. ⌜ (r ≡ lo + 256 * hi) × (r < 65536) ⌝ }
+{
+    (lo as usize) + 256 * (hi as usize)
+}
+
+// The 16 bits at a place.
+fn two_at(bytes: &[u8], i: usize) -> usize
+    requires { ⌜ i + 1 < length (now bytes) ⌝ }
+    ensures { λ r. ⌜ (r ≡ twoAt (now (bytes .entry)) i) × (r < 65536) ⌝ }
+{
+    two(bytes[i], bytes[i + 1])
+}
+
+// The offset of sheet n of `count`, by the trailer.
+fn offset(bytes: &[u8], count: usize, n: usize) -> usize
+    requires { ⌜ (count ≡ sheetCount (now bytes)) × (trailerLength count ≤ length (now bytes)) × (n < count) ⌝ }
+    ensures { λ r. ⌜ (r ≡ Bundle·offset (now (bytes .entry)) n) × (r < 65536) ⌝ }
+{
+    two_at(bytes, bytes.len() - (2 * count + 2) + 2 * n)
+}
+
+// Whether the sheets follow one another up to the trailer, as their offsets say.
+fn has_sheets(bytes: &[u8], count: usize) -> bool
+    requires { ⌜ (count ≡ sheetCount (now bytes)) × (trailerLength count ≤ length (now bytes)) ⌝ }
+    ensures { λ r. ⌜ r ≡ hasSheets (now (bytes .entry)) ⌝ }
+{
+    let mut at = 0usize;
+    let mut n = 0usize;
+    while n < count {
+        let first = byte_at(bytes, at);
+        if first < LEAST_FIRST {
+            return false;
+        }
+        if offset(bytes, count, n) != at {
+            return false;
+        }
+        at += sheet_length(first);
+        n += 1;
+    }
+    at == bytes.len() - (2 * count + 2)
+}
+
+// The refusal that a bundle and a number of a sheet earn, or 0.
+pub fn bundle_refusal(bytes: &[u8], n: u64) -> u8
+    ensures { λ r. ⌜ r ≡ bundleRefusal (now (bytes .entry)) n ⌝ }
+{
+    let len = bytes.len();
+    if len < 2 {
+        return 20;
+    }
+    let count = two_at(bytes, len - 2);
+    if len < 2 * count + 2 {
+        return 20;
+    }
+    if MOST_SHEETS < count {
+        return 20;
+    }
+    if !has_sheets(bytes, count) {
+        return 21;
+    }
+    if count as u64 <= n {
+        return 22;
+    }
+    0
+}
+
+// Where sheet n of a bundle stands.
+pub fn bundle_part(bytes: &[u8], n: u64) -> Part
+    ensures { λ r. ⌜ r ≡ partOf (now (bytes .entry)) n ⌝ }
+{
+    let refusal = bundle_refusal(bytes, n);
+    if refusal != 0 {
+        return Part::Refused(refusal);
+    }
+    let count = two_at(bytes, bytes.len() - 2);
+    let start = offset(bytes, count, n as usize);
+    let length = sheet_length(bytes[start]);
+    Part::At { start, length }
+}
+
+// Sheet n of a bundle, as a part of the bytes handed in; an empty part on a refusal.
+pub fn bundle_sheet(bytes: &[u8], n: u64) -> &[u8]
+    ensures { λ r. ⌜ now r ≡ sheetIn (now (bytes .entry)) n ⌝ }
+{
+    let part = bundle_part(bytes, n);
+    match part {
+        Part::At { start, length } => {
+            let end = start + length;
+            &bytes[start..end]
+        }
+        Part::Refused(_) => &bytes[0..0],
+    }
+}
