@@ -79,7 +79,7 @@ older-refused [] [] more n l c = absurd (omega arith)
 abbrev pub firstEnd : List ℕ → ℕ
 firstEnd b = getD b 0 0 - 56
 
-first-end : (s rest : List ℕ) → Counted s → length s ≡ firstEnd (s ++ rest)
+pub first-end : (s rest : List ℕ) → Counted s → length s ≡ firstEnd (s ++ rest)
 first-end [] rest c = absurd (omega arith)
 first-end (x ∷ s) rest c = omega arith
 
