@@ -3,14 +3,14 @@ use mathlib.Core.Path.{_≡_, refl, sym, ap, ap₂, _∙_}
 use mathlib.Core.Bool.{Bool, true, false, not, cond, _&&_}
 use mathlib.Core.List.{List, [], _∷_, _++_, flatten, append-assoc, append-nil}
 use mathlib.Core.Logic.{_≢_}
-use Prim.Native.Nat.{ℕ, zero, suc, _+_, _-_, _≤_, _<_}
+use Prim.Native.Nat.{ℕ, zero, suc, _+_, _*_, _-_, _≤_, _<_}
 use native.Mathlib.Nat.{zero-add}
 use native.Mathlib.Decide.{ℕ-discrete}
 use native.Mathlib.Omega.{arith}
 use lib.Dec.{eqb, leb, ltb}
 use lib.ListN.{length, getD, take, drop, length-drop}
 use lib.Seq.{take-add, length-take-le, getD-take, getD-drop}
-use borrow.Author.Tests.{eqb-true, leb-true, ltb-true, lt-ltb, le-ltb, le-leb, eq-eqb, ne-eqb}
+use borrow.Author.Tests.{eqb-true, leb-true, ltb-true, ltb-false, lt-ltb, le-ltb, lt-leb, le-leb, eq-eqb, ne-eqb}
 use Rattle.matrix.specs.Range.{every, tabulate}
 use Rattle.matrix.specs.Laws.Test.{and-left, and-right}
 use Rattle.matrix.specs.Laws.Range.{every-sound, every-complete}
@@ -193,3 +193,50 @@ module _ (b : List ℕ) (h : Bundled b) where
   parts-end-to-end =
       from-part 0 (sheetCount b) (let l : 0 + sheetCount b ≤ sheetCount b = omega arith in l)
       ∙ ap (λ n. take n b) (ap (startOf b) (zero-add (sheetCount b)) ∙ h .ended)
+
+-- ---- long bytes
+
+-- the most bytes of a bundle that is read: an offset has 16 bits, the sheet there at most 199 bytes, and the trailer is that of 512 sheets
+abbrev pub longestBundle : ℕ
+longestBundle = 65535 + 199 + trailerLength mostSheets
+
+module _ (b : List ℕ) (byte : (i : ℕ) → getD b i 0 < 256) where
+  bundled-length : Bundled b → length b ≤ longestBundle
+  unfolding startOf
+  bundled-length h = go (sheetCount b) refl
+    where
+      go : (c : ℕ) → sheetCount b ≡ c → length b ≤ longestBundle
+      go zero e = let s = ap (startOf b) e in let t = h .ended in let f = h .fits in omega arith
+      go (suc n) e =
+          let s = ap (startOf b) e in
+          let t = h .ended in
+          let m = h .few in
+          let f = h .fits in
+          let o = h .follows n (omega arith) in
+          let x = byte (trailerStart b + 2 * n) in
+          let y = byte (trailerStart b + 2 * n + 1) in
+          let z = byte (startOf b n) in
+          omega arith
+
+  -- so of longer bytes the last two decide, whatever stands before them
+  pub long-refused : longestBundle < length b → (n : ℕ) → bundleRefusal b n ≡ cond (ltb mostSheets (sheetCount b)) 20 21
+  unfolding bundleRefusal
+  long-refused l n = go (hasSheets b) refl (ltb mostSheets (sheetCount b)) refl
+    where
+      none : (s : Bool) → (s && false) ≡ false
+      none true = refl
+      none false = refl
+
+      no-trailer : ltb mostSheets (sheetCount b) ≡ true → hasTrailer b ≡ false
+      no-trailer e =
+          rw (lt-leb (sheetCount b) mostSheets (ltb-true mostSheets (sheetCount b) e), none (leb (trailerLength (sheetCount b)) (length b)), none (leb 2 (length b)))
+
+      trailer : ltb mostSheets (sheetCount b) ≡ false → hasTrailer b ≡ true
+      trailer e =
+          let m = ltb-false mostSheets (sheetCount b) e in
+          rw (le-leb 2 (length b) (omega arith), le-leb (trailerLength (sheetCount b)) (length b) (omega arith), le-leb (sheetCount b) mostSheets m)
+
+      go : (s : Bool) → hasSheets b ≡ s → (t : Bool) → ltb mostSheets (sheetCount b) ≡ t → bundleRefusal b n ≡ cond t 20 21
+      go s p true q = rw (no-trailer q)
+      go false p false q = rw (trailer q, p)
+      go true p false q = let k = bundled-length (bundled-sound b (trailer q) p) in absurd (omega arith)
