@@ -20,6 +20,12 @@ pub enum Answer {
     Refused(u8),
 }
 
+// What a call that writes as many bytes as its input calls for answers: how many these are, or the refusal's number.
+pub enum Wrote {
+    Bytes(usize),
+    Refused(u8),
+}
+
 // What reading a gate list or a sheet gives: the number of a refusal, or 0 and an operator at its least exponent.
 pub struct Read {
     pub refusal: u8,

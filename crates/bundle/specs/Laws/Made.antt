@@ -1,8 +1,9 @@
 -- A bundle made of sheets is read without refusal, and gives back each sheet.
 use mathlib.Core.Path.{_≡_, refl, sym, ap, ap₂, subst, _∙_}
-use mathlib.Core.List.{List, [], _∷_, _++_, flatten, append-nil}
+use mathlib.Core.List.{List, [], _∷_, _++_, flatten, append-nil, append-assoc}
 use Prim.Native.Nat.{ℕ, zero, suc, _+_, _*_, _-_, _/_, _%_, _≤_, _<_}
 use native.Mathlib.Nat.{zero-add}
+use native.Mathlib.Numerals.{add-one}
 use native.Mathlib.Omega.{arith}
 use lib.ListN.{length, getD, take, length-append, List·getD-append}
 use lib.Seq.{getD-append-add, take-append-seam}
@@ -21,6 +22,13 @@ pub record EndToEnd (s : List ℕ) (n : ℕ) : Type 0 where
   pub ended : startOf s n ≡ length s
 
 -- ---- the trailer
+
+flatten-next : (g : ℕ → List ℕ) (a k : ℕ) → flatten (tabulate g a k) ++ g (a + k) ≡ flatten (tabulate g a (suc k))
+unfolding tabulate flatten
+flatten-next g a zero = ap g (let i : a + zero ≡ a = omega arith in i) ∙ sym (append-nil (g a))
+flatten-next g a (suc k) =
+    append-assoc (g a) (flatten (tabulate g (suc a) k)) (g (a + suc k))
+    ∙ ap (λ x. g a ++ x) (ap (λ i. flatten (tabulate g (suc a) k) ++ g i) (let i : a + suc k ≡ suc a + k = omega arith in i) ∙ flatten-next g (suc a) k)
 
 module _ (f : ℕ → ℕ) where
   length-two : (a k : ℕ) → length (flatten (tabulate (λ i. twoBytes (f i)) a k)) ≡ 2 * k
@@ -46,12 +54,19 @@ module _ (f : ℕ → ℕ) where
 -- ---- the bundle
 
 module _ (s : List ℕ) (c : ℕ) where
-  made-length : length (bundleOf s c) ≡ length s + trailerLength c
+  pub length-offsets : length (offsets s c) ≡ 2 * c
+  length-offsets = length-two (startOf s) 0 c
+
+  pub offsets-next : offsets s c ++ twoBytes (startOf s c) ≡ offsets s (c + 1)
+  offsets-next =
+      ap (λ i. offsets s c ++ twoBytes (startOf s i)) (sym (zero-add c)) ∙ flatten-next (λ i. twoBytes (startOf s i)) 0 c ∙ ap (offsets s) (sym (add-one c))
+
+  pub made-length : length (bundleOf s c) ≡ length s + trailerLength c
   unfolding bundleOf
   made-length =
       let a = length-append s (offsets s c ++ twoBytes c) in
       let b = length-append (offsets s c) (twoBytes c) in
-      let l = length-two (startOf s) 0 c in
+      let l = length-offsets in
       omega arith
 
   -- 16 bits of the trailer
@@ -62,10 +77,10 @@ module _ (s : List ℕ) (c : ℕ) where
       ap₂ (λ x y. x + 256 * y) (ap (λ k. getD (bundleOf s c) k 0) e ∙ getD-append-add s (offsets s c ++ twoBytes c) i 0)
       (ap (λ k. getD (bundleOf s c) k 0) j ∙ getD-append-add s (offsets s c ++ twoBytes c) (i + 1) 0)
 
-  made-count : sheetCount (bundleOf s c) ≡ c
+  pub made-count : sheetCount (bundleOf s c) ≡ c
   made-count =
       let n = made-length in
-      let o = length-two (startOf s) 0 c in
+      let o = length-offsets in
       let i : length (offsets s c) ≡ length (offsets s c) + 0 = omega arith in
       let e : c % 256 + 256 * (c / 256) ≡ c = omega arith in
       trailer-two (length (offsets s c)) (length (bundleOf s c) - 2) (omega arith)
