@@ -96,11 +96,11 @@ module _ (s : List ℕ) (c : ℕ) where
     unfolding startOf
     inside n l = let f = h .firsts n l in let m = start-le s (suc n) c l in let e = h .ended in omega arith
 
-    made-first : (n : ℕ) → n < c → getD (bundleOf s c) (startOf s n) 0 ≡ getD s (startOf s n) 0
+    pub made-first : (n : ℕ) → n < c → getD (bundleOf s c) (startOf s n) 0 ≡ getD s (startOf s n) 0
     unfolding bundleOf
     made-first n l = List·getD-append s (offsets s c ++ twoBytes c) 0 (startOf s n) (inside n l)
 
-    made-start : (n : ℕ) → n ≤ c → startOf (bundleOf s c) n ≡ startOf s n
+    pub made-start : (n : ℕ) → n ≤ c → startOf (bundleOf s c) n ≡ startOf s n
     unfolding startOf
     made-start zero l = refl
     made-start (suc n) l =
@@ -143,7 +143,7 @@ pub record Opens (s : List ℕ) : Type 0 where
   pub counted : Counted s
   pub long : shortest ≤ length s
 
-start-behind : (s r : List ℕ) → Counted s → (n : ℕ) → startOf (s ++ r) (suc n) ≡ length s + startOf r n
+pub start-behind : (s r : List ℕ) → Counted s → (n : ℕ) → startOf (s ++ r) (suc n) ≡ length s + startOf r n
 unfolding startOf
 start-behind s r c zero = let e = first-end s r c in omega arith
 start-behind s r c (suc n) =

@@ -92,7 +92,7 @@ first-step f a k r = go (f a) refl
           earlier = λ j x y. elim (ℕ-discrete a j) [ yes z ↦ subst (λ w. f w ≡ false) z p | no z ↦ s .earlier j (omega arith) y ];
         }
 
-true-false : true ≡ false → ⊥
+pub true-false : true ≡ false → ⊥
 true-false z = subst T z tt
 
 pub first-found : (f : ℕ → Bool) (a k i : ℕ) → f i ≡ true → a ≤ i → i < a + k → First f a (a + k) (firstFrom f a k)
