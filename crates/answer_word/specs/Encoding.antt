@@ -5,8 +5,10 @@ use Prim.Native.Nat.{ℕ, _+_, _*_, _^_, _/_, _%_, _<_, _≤_}
 use lib.Dec.{eqb}
 use Rattle.file.specs.declared.Answer.{Answer}
 use Rattle.file.specs.declared.Answer.the-variants.{Count, Refused}
+use Rattle.file.specs.declared.Wrote as wrote
 use Rattle.operator.specs.declared.Cuts as cuts
 use Rattle.operator.specs.declared.Listed as listed
+use Rattle.bundle.specs.declared.Part as part
 
 -- ---- the layout
 
@@ -62,6 +64,21 @@ listedParts (listed.the-variants.Refused n) = refused n
 abbrev pub lettersOf : listed.Listed → ℕ
 lettersOf (listed.the-variants.Letters t letters loose) = letters
 lettersOf (listed.the-variants.Refused n) = 0
+
+-- how many bytes were written is the value
+abbrev pub wroteParts : wrote.Wrote → Parts
+wroteParts (wrote.the-variants.Bytes n) = given n 0 0 0
+wroteParts (wrote.the-variants.Refused n) = refused n
+
+-- the number of bytes written
+abbrev pub bytesOf : wrote.Wrote → ℕ
+bytesOf (wrote.the-variants.Bytes n) = n
+bytesOf (wrote.the-variants.Refused n) = 0
+
+-- the place of a part's first byte is the value, its length the length
+abbrev pub partParts : part.Part → Parts
+partParts (part.the-variants.At start size) = given start size 0 0
+partParts (part.the-variants.Refused n) = refused n
 
 -- r is the word of the parts p, and they have room, so that a caller finds them (`parts-back`)
 pub record WordOf (p : Parts) (r : ℕ) : Type 0 where

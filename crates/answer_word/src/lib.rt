@@ -1,12 +1,15 @@
 // An answer as one word of 64 bits. The contracts cite specs/Encoding.antt.
 
+use bundle::Part;
 use file::Answer;
+use file::Wrote;
 use operator::Cuts;
 use operator::Listed;
 ghost use mathlib.Core.Logic.{_≢_};
 ghost use mathlib.Core.Path.{_≡_};
 ghost use Prim.Native.Nat.{_^_, _<_};
-ghost use Rattle.answer_word.specs.Encoding.{packed, answerParts, cutsParts, listedParts, lettersOf, WordOf};
+ghost use Rattle.bundle.specs.Bundle.{Placed};
+ghost use Rattle.answer_word.specs.Encoding.{packed, answerParts, cutsParts, listedParts, lettersOf, wroteParts, bytesOf, partParts, WordOf};
 
 // The lowest bit of each part of a word; that of the refusal is 1.
 const VALUE: u64 = 1 << 8;
@@ -67,5 +70,29 @@ pub fn encode_listed(answer: Listed) -> u64
             loose,
         } => pack(0, count as u32, letters as u16, loose, 0),
         Listed::Refused(refusal) => pack(refusal, 0, 0, 0, 0),
+    }
+}
+
+// The word of the answer of a call that writes as many bytes as its input calls for.
+// Wrong, and refused: the bytes as a length; a value beside a refusal.
+pub fn encode_wrote(answer: Wrote) -> u64
+    requires { ⌜ (answer ≢ Wrote.Refused 0) × (bytesOf answer < 2 ^ 24) ⌝ }
+    ensures { λ r. ⌜ WordOf (wroteParts answer) r ⌝ }
+{
+    match answer {
+        Wrote::Bytes(bytes) => pack(0, bytes as u32, 0, 0, 0),
+        Wrote::Refused(refusal) => pack(refusal, 0, 0, 0, 0),
+    }
+}
+
+// The word of where a part stands.
+// Wrong, and refused: the first byte and the length in each other's bits; the length left out.
+pub fn encode_part(part: Part) -> u64
+    requires { ⌜ (part ≢ Part.Refused 0) × Placed part ⌝ }
+    ensures { λ r. ⌜ WordOf (partParts part) r ⌝ }
+{
+    match part {
+        Part::At { start, length } => pack(0, start as u32, length as u16, 0, 0),
+        Part::Refused(refusal) => pack(refusal, 0, 0, 0, 0),
     }
 }

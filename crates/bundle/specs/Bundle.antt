@@ -1,7 +1,7 @@
 -- Bundles (document 02, P7): "A bundle holds up to 512 sheets end to end, then a trailer pointing back". A bundle is the list of its bytes.
 use mathlib.Core.Bool.{Bool, not, cond, _&&_}
 use mathlib.Core.List.{List, [], _∷_, _++_, flatten}
-use Prim.Native.Nat.{ℕ, zero, suc, _+_, _*_, _-_, _/_, _%_}
+use Prim.Native.Nat.{ℕ, zero, suc, _+_, _*_, _-_, _/_, _%_, _<_}
 use lib.Dec.{eqb, leb, ltb}
 use lib.ListN.{length, getD, take, drop}
 use Rattle.matrix.specs.Range.{every, tabulate}
@@ -74,6 +74,11 @@ bundleRefusal b n =
 -- where sheet n stands, or the refusal's number
 unfoldable pub partOf : List ℕ → ℕ → Part
 partOf b n = cond (eqb (bundleRefusal b n) 0) (At (offset b n) (lengthAt b (offset b n))) (Refused (bundleRefusal b n))
+
+-- a place has 16 bits, and a sheet at most 255 less 56 bytes
+abbrev pub Placed : Part → Type 0
+Placed (At start size) = (start < 65536) × (size < 200)
+Placed (Refused r) = Unit {0}
 
 -- "the reader hands back the sheet as that part of the bytes it was given"; "On a refusal the part is empty"
 unfoldable pub sheetIn : List ℕ → ℕ → List ℕ

@@ -3,7 +3,7 @@
 ghost use mathlib.Core.Path.{_≡_};
 ghost use Prim.Native.Nat.{_+_, _*_, _-_, _<_, _≤_};
 ghost use lib.ListN.{length, getD};
-ghost use Rattle.bundle.specs.Bundle.{bundleRefusal, hasSheets, mostSheets, offset as Bundle·offset, partOf, sheetCount, sheetIn, trailerLength, twoAt};
+ghost use Rattle.bundle.specs.Bundle.{bundleRefusal, hasSheets, offset as Bundle·offset, partOf, Placed, sheetCount, sheetIn, trailerLength, twoAt};
 
 // The most sheets of a bundle.
 pub const MOST_SHEETS: usize = 512;
@@ -107,7 +107,7 @@ pub fn bundle_refusal(bytes: &[u8], n: u64) -> u8
 
 // Where sheet n of a bundle stands.
 pub fn bundle_part(bytes: &[u8], n: u64) -> Part
-    ensures { λ r. ⌜ r ≡ partOf (now (bytes .entry)) n ⌝ }
+    ensures { λ r. ⌜ (r ≡ partOf (now (bytes .entry)) n) × Placed r ⌝ }
 {
     let refusal = bundle_refusal(bytes, n);
     if refusal != 0 {

@@ -29,7 +29,7 @@ returns : tie.Need-returns
 returns c =
     let s = c .before .before .before in
     let e = c .before .bundle-refusal .ensures in
-    ap Refused e ∙ sym (part-missing _ _ (λ z. c .if1 .taken (e ∙ z)))
+    (ap Refused e ∙ sym (part-missing _ _ (λ z. c .if1 .taken (e ∙ z))), tt)
 
 sub-two-at : tie.Need-sub-two-at
 sub-two-at c = sheet c .bundled .long
@@ -62,7 +62,7 @@ returns-2 c =
     let s = o .before .before .before .before .before in
     let e = o .offset .ensures .0 in
     let z = sym (o .before .before .before .bundle-refusal .ensures) ∙ o .before .before .if1 .left in
-    ap₂ At e (c .sheet-length .ensures .0 ∙ ap (λ i. getD (now (s .args .bytes)) i 0 - 56) e) ∙ sym (part-found _ _ z)
+    (ap₂ At e (c .sheet-length .ensures .0 ∙ ap (λ i. getD (now (s .args .bytes)) i 0 - 56) e) ∙ sym (part-found _ _ z), (o .offset .ensures .1, c .sheet-length .ensures .1))
 
 pub bundle-part-spec : {M : Type 1} → statement M
 bundle-part-spec =

@@ -15,7 +15,7 @@ found : (c : tie.After-known-told) → let b = now (c .before .before .before .b
     let start = c .before .part .given .0 .0 in
     let size = c .before .part .given .0 .1 .0 in
     (start + size ≤ length b) × (take size (drop start b) ≡ sheetIn b (c .before .before .before .before .before .args .n))
-found c = part-at _ _ _ _ (sym (c .before .before .before .bundle-part .ensures) ∙ c .before .part .given .1)
+found c = part-at _ _ _ _ (sym (c .before .before .before .bundle-part .ensures .0) ∙ c .before .part .given .1)
 
 bundle-part-requires : tie.Need-bundle-part-requires
 bundle-part-requires c κs = search needs
@@ -60,7 +60,7 @@ returns c =
     ap (λ k. take k (drop start (now (t .before .before .before .before .before .args .bytes)))) e ∙ found t .1
 
 returns-2 : tie.Need-returns-2
-returns-2 c = sym (part-none _ _ _ (sym (c .before .before .before .bundle-part .ensures) ∙ c .before .enum-told .given .1))
+returns-2 c = sym (part-none _ _ _ (sym (c .before .before .before .bundle-part .ensures .0) ∙ c .before .enum-told .given .1))
 
 pub bundle-sheet-spec : {M : Type 1} → statement M
 bundle-sheet-spec =
