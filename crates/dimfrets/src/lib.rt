@@ -5,7 +5,9 @@ ghost use Rattle.gate.specs.Promise.{ProductPromise};
 ghost use Rattle.operator.specs.Promise.{SheetPromise, GatesPromise};
 ghost use Rattle.order.specs.Order.{orderAnswer};
 ghost use Rattle.sheet.specs.Promise.{OperatorPromise};
-ghost use Rattle.answer_word.specs.Encoding.{answerParts, cutsParts, listedParts, WordOf, Encodes};
+ghost use Rattle.bundle.specs.Bundle.{partOf};
+ghost use Rattle.bundle_write.specs.Writing.{BundlePromise};
+ghost use Rattle.answer_word.specs.Encoding.{answerParts, cutsParts, listedParts, wroteParts, partParts, WordOf, Encodes};
 
 // An operator file into a sheet.
 #[no_mangle]
@@ -41,6 +43,25 @@ pub extern "C" fn dimfrets_sheet_to_operator(input: &[u8], output: &mut [u8]) ->
 {
     let answer = sheet::sheet_to_operator(input, output);
     answer_word::encode_answer(answer)
+}
+
+// Where a sheet stands in a bundle.
+// Wrong, and refused: the sheet after it; the length of the bundle's first sheet.
+#[no_mangle]
+pub extern "C" fn dimfrets_bundle_sheet(input: &[u8], n: u64) -> u64
+    ensures { λ r. ⌜ WordOf (partParts (partOf (now (input .entry)) n)) r ⌝ }
+{
+    let part = bundle::bundle_part(input, n);
+    answer_word::encode_part(part)
+}
+
+// Sheets that are stored end to end into a bundle.
+#[no_mangle]
+pub extern "C" fn dimfrets_sheets_to_bundle(input: &[u8], output: &mut [u8]) -> u64
+    ensures { λ r. ⌜ Encodes wroteParts (BundlePromise (now (input .entry)) (now (output .entry)) (now (output .exit))) r ⌝ }
+{
+    let answer = bundle_write::sheets_to_bundle(input, output);
+    answer_word::encode_wrote(answer)
 }
 
 // The number of CS states to order.

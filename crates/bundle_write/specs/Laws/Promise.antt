@@ -12,7 +12,7 @@ use Rattle.file.specs.File.{written, Appended}
 use Rattle.bundle.specs.Bundle.{mostSheets, trailerLength, startOf}
 use Rattle.bundle.specs.Laws.Made.{made-length}
 use Rattle.bundle_write.specs.Writing.{storedCount, sheetsRefusal, sheetsBundle, bundleAnswer, bundleBuffer, BundlePromise}
-use Rattle.bundle_write.specs.Laws.Stored.{stored-reads, stored-parts}
+use Rattle.bundle_write.specs.Laws.Stored.{stored-start, stored-few, stored-end-to-end, stored-reads, stored-parts}
 
 module _ (s : List ℕ) where
   pub many-refused : mostSheets < storedCount s → sheetsRefusal s ≡ 20
@@ -32,6 +32,15 @@ module _ (s : List ℕ) where
   pub length-bundle : length (sheetsBundle s) ≡ length s + trailerLength (storedCount s)
   unfolding sheetsBundle
   length-bundle = made-length s (storedCount s)
+
+  -- and that a buffer of 19,458 bytes always has room
+  pub bundle-small : sheetsRefusal s ≡ 0 → length (sheetsBundle s) ≤ 19458
+  bundle-small z =
+      let l = length-bundle in
+      let m = stored-few s z in
+      let e = stored-end-to-end s z .ended in
+      let h = stored-start s (storedCount s) (omega arith) .1 in
+      omega arith
 
   module _ (old : List ℕ) where
     pub promise-refused : (r : ℕ) → sheetsRefusal s ≡ r → r ≢ 0 → BundlePromise s old old (Refused r)

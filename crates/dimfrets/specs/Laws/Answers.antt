@@ -1,4 +1,4 @@
--- What the calls answer has room in the word: no refusal is numbered 0, and no gate list has 2^16 letters.
+-- What the calls answer has room in the word: no refusal is numbered 0, no gate list has 2^16 letters, and no bundle 2^24 bytes.
 use mathlib.Core.Bool.{Bool, true, false, cond, _||_}
 use mathlib.Core.List.{List, [], _∷_, _++_}
 use mathlib.Core.Logic.{_≢_}
@@ -8,7 +8,7 @@ use native.Mathlib.Decide.{ℕ-discrete, decLt}
 use native.Mathlib.Omega.{arith}
 use lib.Dec.{eqb, ltb}
 use lib.ListN.{length}
-use borrow.Author.Tests.{eqb-false}
+use borrow.Author.Tests.{eqb-true, eqb-false}
 use Rattle.file.specs.declared.Answer.the-variants.{Count, Refused}
 use Rattle.file.specs.File.{largestExponent, fileLength}
 use Rattle.letter.specs.declared.Gate.{Gate}
@@ -25,7 +25,12 @@ use Rattle.operator.specs.Laws.Promise.{count-small}
 use Rattle.sheet_bytes.specs.Sheet.{sheetRefusal, sheetLeast}
 use Rattle.sheet.specs.Promise as sheet
 use Rattle.order.specs.Order.{largestSpoilage, figure, orderAnswer}
-use Rattle.answer_word.specs.Encoding.{lettersOf}
+use Rattle.file.specs.declared.Wrote.the-variants as wrote
+use Rattle.bundle.specs.declared.Part.the-variants as part
+use Rattle.bundle.specs.Bundle as bundle
+use Rattle.bundle_write.specs.Writing.{sheetsRefusal, sheetsBundle, bundleAnswer}
+use Rattle.bundle_write.specs.Laws.Promise.{bundle-small}
+use Rattle.answer_word.specs.Encoding.{lettersOf, bytesOf}
 
 -- an answer whose refusals are apart and that can also be none
 module _ {A : Type 0} (refusal : ℕ → A) (apart : (n : ℕ) → n ≢ 0 → refusal n ≢ refusal 0) (done : A) (none : done ≢ refusal 0) where
@@ -106,3 +111,27 @@ gates-fit b old new a p =
         let s = h .short in
         let t = count-small b z in
         (λ r. let x : _≡_ {A = ℕ} 0 1 = cc in omega arith, omega arith)
+
+-- ---- bundles
+
+pub part-not-zero : (b : List ℕ) (n : ℕ) → bundle.partOf b n ≢ part.Refused 0
+unfolding bundle.partOf
+part-not-zero b n =
+    refused-or-short part.Refused (λ n h e. h (cc)) (part.At (bundle.offset b n) (bundle.lengthAt b (bundle.offset b n))) (λ e. let z : _≡_ {A = ℕ} 0 1 = cc in omega arith)
+    (bundle.bundleRefusal b n) false
+
+pub bundle-not-zero : (s : List ℕ) (n : ℕ) → bundleAnswer s n ≢ wrote.Refused 0
+unfolding bundleAnswer
+bundle-not-zero s n =
+    refused-or-short wrote.Refused (λ n h e. h (cc)) (wrote.Bytes (length (sheetsBundle s))) (λ e. let z : _≡_ {A = ℕ} 0 1 = cc in omega arith) (sheetsRefusal s)
+    (ltb n (length (sheetsBundle s)))
+
+pub bundle-bytes : (s : List ℕ) (n : ℕ) → bytesOf (bundleAnswer s n) < 2 ^ 24
+unfolding bundleAnswer
+bundle-bytes s n = by (eqb (sheetsRefusal s) 0) refl (ltb n (length (sheetsBundle s)))
+  where
+    by : (z : Bool) → eqb (sheetsRefusal s) 0 ≡ z → (t : Bool)
+        → bytesOf (cond z (cond t (wrote.Refused 6) (wrote.Bytes (length (sheetsBundle s)))) (wrote.Refused (sheetsRefusal s))) < 2 ^ 24
+    by false e t = omega arith
+    by true e true = omega arith
+    by true e false = let l = bundle-small s (eqb-true (sheetsRefusal s) 0 e) in omega arith
