@@ -121,7 +121,7 @@ pub fn bundle_part(bytes: &[u8], n: u64) -> Part
 
 // Sheet n of a bundle, as a part of the bytes handed in; an empty part on a refusal.
 pub fn bundle_sheet(bytes: &[u8], n: u64) -> &[u8]
-    ensures { λ r. ⌜ now r ≡ sheetIn (now (bytes .entry)) n ⌝ }
+    ensures { λ r. ⌜ (now r ≡ sheetIn (now (bytes .entry)) n) × (length (now r) < 200) ⌝ }
 {
     let part = bundle_part(bytes, n);
     match part {

@@ -1,11 +1,11 @@
 -- A part that is found lies in the bytes.
-use mathlib.Core.Path.{_≡_, sym, ap, _∙_}
+use mathlib.Core.Path.{_≡_, sym, ap, subst, _∙_}
 use Prim.Native.Nat.{_+_, _-_, _≤_}
 use native.Mathlib.Omega.{arith}
-use lib.ListN.{length, take, drop}
+use lib.ListN.{length, take, drop, length-take}
 use denote.Ref.{now}
 use borrow.Author.Needs.{needs}
-use Rattle.bundle.specs.Bundle.{sheetIn}
+use Rattle.bundle.specs.Bundle.{Placed, sheetIn}
 use Rattle.bundle.specs.Laws.Read.{part-at, part-none}
 use Rattle.bundle.proofs.bundle_sheet.Statement.{statement}
 use Rattle.bundle.proofs.bundle_sheet.Tie as tie
@@ -54,13 +54,16 @@ part-result-end-2 c = search needs
 returns : tie.Need-returns
 returns c =
     let t = c .before in
+    let b = now (t .before .before .before .before .before .args .bytes) in
     let start = t .before .part .given .0 .0 in
     let size = t .before .part .given .0 .1 .0 in
     let e : start + size - start ≡ size = omega arith in
-    ap (λ k. take k (drop start (now (t .before .before .before .before .before .args .bytes)))) e ∙ found t .1
+    let p = subst Placed (t .before .part .given .1) (t .before .before .before .bundle-part .ensures .1) .1 in
+    let l = length-take (start + size - start) (drop start b) in
+    (ap (λ k. take k (drop start b)) e ∙ found t .1, omega arith)
 
 returns-2 : tie.Need-returns-2
-returns-2 c = sym (part-none _ _ _ (sym (c .before .before .before .bundle-part .ensures .0) ∙ c .before .enum-told .given .1))
+returns-2 c = (sym (part-none _ _ _ (sym (c .before .before .before .bundle-part .ensures .0) ∙ c .before .enum-told .given .1)), omega arith)
 
 pub bundle-sheet-spec : {M : Type 1} → statement M
 bundle-sheet-spec =
