@@ -3,3 +3,4 @@ pub mod Stored
 pub mod Walk
 pub mod Promise
 pub mod Sheets
+pub mod Long

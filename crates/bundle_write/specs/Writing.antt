@@ -2,7 +2,7 @@
 use mathlib.Core.Bool.{Bool, not, cond, _&&_}
 use mathlib.Core.List.{List, flatten}
 use mathlib.Core.Path.{_≡_}
-use Prim.Native.Nat.{ℕ, suc, _+_, _<_}
+use Prim.Native.Nat.{ℕ, suc, _+_, _*_, _<_}
 use lib.Dec.{eqb, leb, ltb}
 use lib.ListN.{length}
 use Rattle.matrix.specs.Range.{firstFrom, tabulate}
@@ -10,7 +10,7 @@ use Rattle.file.specs.declared.Wrote.{Wrote}
 use Rattle.file.specs.declared.Wrote.the-variants.{Bytes, Refused}
 use Rattle.file.specs.File.{written}
 use Rattle.sheet_bytes.specs.Bytes.{shortest, longest}
-use Rattle.bundle.specs.Bundle.{mostSheets, lengthAt, startOf, bundleRefusal, sheetIn, bundleOf}
+use Rattle.bundle.specs.Bundle.{mostSheets, trailerLength, lengthAt, startOf, bundleRefusal, sheetIn, bundleOf}
 
 -- whether a whole sheet stands at a place: as long as its first byte says, which is a length that a sheet may have, and not past the end
 abbrev pub isWhole : List ℕ → ℕ → Bool
@@ -29,6 +29,10 @@ sheetsRefusal s =
 -- the bundle of sheets that stand end to end
 unfoldable pub sheetsBundle : List ℕ → List ℕ
 sheetsBundle s = bundleOf s (storedCount s)
+
+-- the most bytes that such a bundle has
+abbrev pub longestWritten : ℕ
+longestWritten = mostSheets * longest + trailerLength mostSheets
 
 -- the answer, where the lent buffer has n bytes: the refusals of the sheets, and then 6, a buffer that is shorter than the bundle
 unfoldable pub bundleAnswer : List ℕ → ℕ → Wrote

@@ -9,6 +9,9 @@ ghost use Rattle.file.specs.File.{Appended};
 ghost use Rattle.bundle.specs.Bundle.{mostSheets, trailerLength, lengthAt, startOf, twoBytes, offsets, bundleOf};
 ghost use Rattle.bundle_write.specs.Writing.{isWhole, storedCount, BundlePromise};
 
+// The most bytes of a bundle that is written: 512 sheets of 36 bytes, and their trailer.
+pub const LONGEST_BUNDLE: usize = 19458;
+
 // How many whole sheets stand end to end from the front on, and where they end.
 struct Stored {
     count: usize,

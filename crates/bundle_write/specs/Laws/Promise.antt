@@ -11,7 +11,7 @@ use Rattle.file.specs.declared.Wrote.the-variants.{Bytes, Refused}
 use Rattle.file.specs.File.{written, Appended}
 use Rattle.bundle.specs.Bundle.{mostSheets, trailerLength, startOf}
 use Rattle.bundle.specs.Laws.Made.{made-length}
-use Rattle.bundle_write.specs.Writing.{storedCount, sheetsRefusal, sheetsBundle, bundleAnswer, bundleBuffer, BundlePromise}
+use Rattle.bundle_write.specs.Writing.{storedCount, sheetsRefusal, sheetsBundle, longestWritten, bundleAnswer, bundleBuffer, BundlePromise}
 use Rattle.bundle_write.specs.Laws.Stored.{stored-start, stored-few, stored-end-to-end, stored-reads, stored-parts}
 
 module _ (s : List ℕ) where
@@ -33,8 +33,7 @@ module _ (s : List ℕ) where
   unfolding sheetsBundle
   length-bundle = made-length s (storedCount s)
 
-  -- and that a buffer of 19,458 bytes always has room
-  pub bundle-small : sheetsRefusal s ≡ 0 → length (sheetsBundle s) ≤ 19458
+  pub bundle-small : sheetsRefusal s ≡ 0 → length (sheetsBundle s) ≤ longestWritten
   bundle-small z =
       let l = length-bundle in
       let m = stored-few s z in
