@@ -27,12 +27,12 @@ pub fn show_number(word: &[u8], n: u8) {
     io::print_decimal(1, n as u64);
 }
 
-// The bytes of a sheet after a word.
-fn show_sheet(word: &[u8], sheet: &[u8]) {
+// Bytes in decimal after a word.
+pub fn show_bytes(word: &[u8], bytes: &[u8]) {
     show(word);
     let mut n = 0usize;
-    while n < sheet.len() {
-        show_number(b" ", sheet[n]);
+    while n < bytes.len() {
+        show_number(b" ", bytes[n]);
         n += 1;
     }
 }
@@ -53,7 +53,7 @@ pub fn show_cut(file: &[u8]) {
     match answer {
         Cuts::Taken { count, loose } => {
             show_number(b": count ", count);
-            show_sheet(b", sheet", front(&sheet));
+            show_bytes(b", sheet", front(&sheet));
             show_number(b", loose ", loose);
         }
         Cuts::Refused(n) => show_number(b": refused ", n),
@@ -71,7 +71,7 @@ pub fn cut_case(name: &[u8], file: [u8; 73]) {
 pub fn sheet_case(sheet: &[u8]) {
     let mut file = [0u8; 73];
     let answer = sheet::sheet_to_operator(sheet, &mut file);
-    show_sheet(b"sheet", sheet);
+    show_bytes(b"sheet", sheet);
     end_line(b": count ", answer);
 }
 

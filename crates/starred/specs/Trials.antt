@@ -1,7 +1,7 @@
 -- Document 01's trial cuts that are marked to be proved of the definitions, with the first byte of document 02, P4, the last byte of P2 and the
--- L of P3; these requests' own cases, the orders of P1 and the walks of P6: a table of cases, and the test that each passes.
+-- L of P3; these requests' own cases, the orders of P1, the walks of P6 and the bundles of P7: a table of cases, and the test that each passes.
 use mathlib.Core.Bool.{Bool, true, false, _&&_}
-use mathlib.Core.List.{List, [], _∷_}
+use mathlib.Core.List.{List, [], _∷_, _++_}
 use Prim.Native.Nat.{ℕ}
 use lib.Dec.{eqb}
 use lib.IntN.{pos, negsuc, _*ℤ_}
@@ -21,6 +21,8 @@ use Rattle.acceptance.specs.Cutting.{fileLoose}
 use Rattle.operator.specs.Promise.{fileSheet}
 use Rattle.sheet_bytes.specs.Bytes.{sheetOf}
 use Rattle.sheet_bytes.specs.Sheet.{sheetRefusal}
+use Rattle.bundle.specs.Bundle.{bundleRefusal, sheetIn}
+use Rattle.bundle_write.specs.Writing.{sheetsRefusal, sheetsBundle}
 use Rattle.order.specs.Order.{orderAnswer}
 
 pub data Trial : Type 0 where
@@ -38,6 +40,14 @@ pub data Trial : Type 0 where
   orders : ℕ → ℕ → ℕ → Trial
   -- so many entries of this matrix stand before the first odd one
   walks : Matrix → ℕ → Trial
+  -- in this bundle, the sheet of this number is this one
+  takes : List ℕ → ℕ → List ℕ → Trial
+  -- these bytes, read as a bundle, earn this refusal for the sheet of this number
+  bundleRefused : List ℕ → ℕ → ℕ → Trial
+  -- these sheets, end to end, have this bundle
+  bundles : List ℕ → List ℕ → Trial
+  -- these bytes, read as sheets end to end, earn this refusal
+  sheetsRefused : List ℕ → ℕ → Trial
 
 -- whether an answer is this count, or figure
 abbrev counts : Answer → ℕ → Bool
@@ -53,21 +63,48 @@ passes (multiplies w s l) = sameList (sheetOf (productOf w)) s && eqb (fileLoose
 passes (equals w k M) = sameList (productFile w) (fileOf k (listed M))
 passes (orders t p n) = counts (orderAnswer t p) n
 passes (walks M n) = eqb (beforeOdd M) n
+passes (takes b n s) = eqb (bundleRefusal b n) 0 && sameList (sheetIn b n) s
+passes (bundleRefused b n r) = eqb (bundleRefusal b n) r
+passes (bundles s b) = eqb (sheetsRefusal s) 0 && sameList (sheetsBundle s) b
+passes (sheetsRefused s r) = eqb (sheetsRefusal s) r
 
 abbrev pub allPass : List Trial → Bool
 allPass [] = true
 allPass (t ∷ ts) = passes t && allPass ts
 
+-- the sheets of the identity, of `C` and of `CHC`, these end to end, and as a bundle
+abbrev identitySheet : List ℕ
+identitySheet = 64 ∷ 1 ∷ 2 ∷ 3 ∷ 4 ∷ 5 ∷ 6 ∷ 0 ∷ []
+
+abbrev csSheet : List ℕ
+csSheet = 65 ∷ 3 ∷ 1 ∷ 2 ∷ 3 ∷ 4 ∷ 5 ∷ 6 ∷ 0 ∷ []
+
+abbrev chcSheet : List ℕ
+chcSheet = 66 ∷ 3 ∷ 13 ∷ 3 ∷ 130 ∷ 1 ∷ 4 ∷ 5 ∷ 6 ∷ 0 ∷ []
+
+abbrev threeSheets : List ℕ
+threeSheets = identitySheet ++ csSheet ++ chcSheet
+
+abbrev threeBundled : List ℕ
+threeBundled = threeSheets ++ 0 ∷ 0 ∷ 8 ∷ 0 ∷ 17 ∷ 0 ∷ 3 ∷ 0 ∷ []
+
+-- 199 bytes whose first one fits them
+abbrev tooLong : List ℕ
+tooLong = 255 ∷ replicate 198 1
+
 -- the identity; twice the identity, k 2; twice the product of `CHC`, k 4; two sheets that earn 13; a last byte above 1, also of a sheet that
 -- would earn 13; a negative column 1; columns that are no Clifford; the sheet of `CHC` without its first byte, and without its last one too; a
 -- first byte for a longer sheet, also of a sheet that would earn 11; seven bytes and 37, whose first byte fits them; the identity with −1 in
 -- row 1; `C`; `CC` and `Z`; `HH`, which is the identity; `ZZ`, which is its negative; eight `C`, which are the identity, count 0; `CHC`; the orders;
--- the walks: the identity, twice the identity, and that with 1 as its last entry and with −1 in row 2
+-- the walks: the identity, twice the identity, and that with 1 as its last entry and with −1 in row 2; three sheets as a bundle, each of them
+-- taken, and number 3; the empty bundle; no bytes, one, and a trailer for one sheet too many; offsets that leave a gap, a first byte of 63, a sheet
+-- that reaches into the trailer, also where there is no such sheet; 199 bytes, which are handed back and earn 10; no sheets and three, written; a
+-- sheet cut short, and a first byte for 37
 unfoldable pub trials : List Trial
 trials =
-    cuts 0 δ (64 ∷ 1 ∷ 2 ∷ 3 ∷ 4 ∷ 5 ∷ 6 ∷ 0 ∷ []) 0 ∷
-    cuts 2 (λ r c. pos 2 *ℤ δ r c) (64 ∷ 1 ∷ 2 ∷ 3 ∷ 4 ∷ 5 ∷ 6 ∷ 0 ∷ []) 0 ∷
-    cuts 4 (λ r c. pos 2 *ℤ productOf (Cs ∷ H1 ∷ Cs ∷ []) .matrix r c) (66 ∷ 3 ∷ 13 ∷ 3 ∷ 130 ∷ 1 ∷ 4 ∷ 5 ∷ 6 ∷ 0 ∷ []) 1 ∷
+    cuts 0 δ identitySheet 0 ∷
+    cuts 2 (λ r c. pos 2 *ℤ δ r c) identitySheet 0 ∷
+    cuts 4 (λ r c. pos 2 *ℤ productOf (Cs ∷ H1 ∷ Cs ∷ []) .matrix r c) chcSheet 1 ∷
     sheetRefused (66 ∷ 13 ∷ 3 ∷ 1 ∷ 2 ∷ 3 ∷ 4 ∷ 5 ∷ 6 ∷ 0 ∷ []) 13 ∷
     sheetRefused (66 ∷ 3 ∷ 3 ∷ 1 ∷ 2 ∷ 3 ∷ 4 ∷ 5 ∷ 6 ∷ 0 ∷ []) 13 ∷
     sheetRefused (64 ∷ 1 ∷ 2 ∷ 3 ∷ 4 ∷ 5 ∷ 6 ∷ 2 ∷ []) 15 ∷
@@ -81,14 +118,14 @@ trials =
     sheetRefused (63 ∷ 1 ∷ 2 ∷ 3 ∷ 4 ∷ 5 ∷ 6 ∷ []) 10 ∷
     sheetRefused (93 ∷ replicate 36 1) 10 ∷
     fileRefused 0 (replaced 0 (λ c. negsuc 0 *ℤ δ 0 c) δ) 5 ∷
-    multiplies (Cs ∷ []) (65 ∷ 3 ∷ 1 ∷ 2 ∷ 3 ∷ 4 ∷ 5 ∷ 6 ∷ 0 ∷ []) 0 ∷
+    multiplies (Cs ∷ []) csSheet 0 ∷
     multiplies (Cs ∷ Cs ∷ []) (64 ∷ 2 ∷ 129 ∷ 6 ∷ 5 ∷ 132 ∷ 131 ∷ 0 ∷ []) 0 ∷
     multiplies (Cz ∷ []) (64 ∷ 2 ∷ 129 ∷ 6 ∷ 5 ∷ 132 ∷ 131 ∷ 0 ∷ []) 0 ∷
     equals (H1 ∷ H1 ∷ []) 0 δ ∷
     equals (Cz ∷ Cz ∷ []) 0 (λ r c. negsuc 0 *ℤ δ r c) ∷
     multiplies (Cz ∷ Cz ∷ []) (64 ∷ 1 ∷ 2 ∷ 3 ∷ 4 ∷ 5 ∷ 6 ∷ 1 ∷ []) 0 ∷
     equals (Cs ∷ Cs ∷ Cs ∷ Cs ∷ Cs ∷ Cs ∷ Cs ∷ Cs ∷ []) 0 δ ∷
-    multiplies (Cs ∷ H1 ∷ Cs ∷ []) (66 ∷ 3 ∷ 13 ∷ 3 ∷ 130 ∷ 1 ∷ 4 ∷ 5 ∷ 6 ∷ 0 ∷ []) 1 ∷
+    multiplies (Cs ∷ H1 ∷ Cs ∷ []) chcSheet 1 ∷
     orders 10 50 10 ∷
     orders 10 150 12 ∷
     orders 28 50 29 ∷
@@ -100,4 +137,21 @@ trials =
     walks (λ r c. pos 2 *ℤ δ r c) 36 ∷
     walks (replaced 5 (λ c. δ 5 c) (λ r c. pos 2 *ℤ δ r c)) 35 ∷
     walks (replaced 1 (λ c. negsuc 0 *ℤ δ 1 c) (λ r c. pos 2 *ℤ δ r c)) 7 ∷
+    takes threeBundled 0 identitySheet ∷
+    takes threeBundled 1 csSheet ∷
+    takes threeBundled 2 chcSheet ∷
+    bundleRefused threeBundled 3 22 ∷
+    bundleRefused (0 ∷ 0 ∷ []) 0 22 ∷
+    bundleRefused [] 0 20 ∷
+    bundleRefused (0 ∷ []) 0 20 ∷
+    bundleRefused (0 ∷ 1 ∷ 0 ∷ []) 0 20 ∷
+    bundleRefused (threeSheets ++ 0 ∷ 0 ∷ 8 ∷ 0 ∷ 18 ∷ 0 ∷ 3 ∷ 0 ∷ []) 0 21 ∷
+    bundleRefused (63 ∷ 1 ∷ 2 ∷ 3 ∷ 4 ∷ 5 ∷ 6 ∷ 0 ∷ 0 ∷ 1 ∷ 0 ∷ []) 0 21 ∷
+    bundleRefused (65 ∷ 1 ∷ 2 ∷ 3 ∷ 4 ∷ 5 ∷ 6 ∷ 0 ∷ 0 ∷ 0 ∷ 1 ∷ 0 ∷ []) 1 21 ∷
+    takes (tooLong ++ 0 ∷ 0 ∷ 1 ∷ 0 ∷ []) 0 tooLong ∷
+    sheetRefused tooLong 10 ∷
+    bundles [] (0 ∷ 0 ∷ []) ∷
+    bundles threeSheets threeBundled ∷
+    sheetsRefused (threeSheets ++ 64 ∷ 1 ∷ 2 ∷ 3 ∷ 4 ∷ 5 ∷ 6 ∷ []) 21 ∷
+    sheetsRefused (93 ∷ replicate 36 1) 21 ∷
     []

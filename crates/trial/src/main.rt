@@ -1,4 +1,4 @@
-// Document 01's trial cuts, and the cases of document 02, P1 to P4, run through the five calls: a line for each case, with the answer. I is the
+// Document 01's trial cuts, and the cases of document 02, P1 to P4 and P7, run through the calls: a line for each case, with the answer. I is the
 // identity, and the six rows are those of the example of `cut`.
 
 // An entry of −1, in the 16 bits of an operator file.
@@ -12,6 +12,13 @@ const EXAMPLE: [u8; 73] = *b"\x02\
 \0\0\0\0\0\0\0\0\xfe\xff\0\0\
 \0\0\0\0\0\0\x02\0\0\0\0\0\
 \x01\0\xff\xff\x01\0\0\0\0\0\x01\0";
+
+// The bundle of the sheets of the identity, of `C` and of `CHC`: a sheet a line, then the trailer.
+const BUNDLE: [u8; 35] = *b"\
+\x40\x01\x02\x03\x04\x05\x06\0\
+\x41\x03\x01\x02\x03\x04\x05\x06\0\
+\x42\x03\x0d\x03\x82\x01\x04\x05\x06\0\
+\0\0\x08\0\x11\0\x03\0";
 
 // The operator file of x times the identity, with another first entry.
 fn diagonal(k: u8, first: u16, x: u16) -> [u8; 73] {
@@ -105,6 +112,26 @@ fn orders() {
     show::order_case(3, 500);
 }
 
+fn bundles() {
+    show_bundle::bundle_case(&BUNDLE, 0);
+    show_bundle::bundle_case(&BUNDLE, 2);
+    show_bundle::bundle_case(&BUNDLE, 3);
+    show_bundle::bundle_case(&[0, 0], 0);
+}
+
+fn no_bundles() {
+    show_bundle::bundle_case(&[], 0);
+    show_bundle::bundle_case(&[0, 1, 0], 0);
+    show_bundle::bundle_case(&[63, 1, 2, 3, 4, 5, 6, 0, 0, 1, 0], 0);
+    show_bundle::bundle_case(&[64, 1, 2, 3, 4, 5, 6, 0, 1, 0, 1, 0], 1);
+}
+
+fn stored() {
+    show_bundle::sheets_case(&[]);
+    show_bundle::sheets_case(&BUNDLE[..27]);
+    show_bundle::sheets_case(&[64, 1, 2, 3, 4, 5, 6]);
+}
+
 fn main() {
     operators();
     limits();
@@ -116,4 +143,7 @@ fn main() {
     signs();
     counts();
     orders();
+    bundles();
+    no_bundles();
+    stored();
 }

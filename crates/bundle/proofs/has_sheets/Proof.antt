@@ -59,7 +59,7 @@ loop-again c =
     let o = c .before .before .offset .ensures .0 in (
       search needs,
       subst (λ x. Walk b (l .loop .n + 1) (l .loop .at + x)) (sym (c .sheet-length .ensures .0 ∙ ap (λ x. x - 56) e))
-      (walk-next _ (l .loop .n) (l .loop .at) (l .loop .inv .1) (omega arith) (omega arith) (sym o ∙ c .before .if2 .left)),
+          (walk-next _ (l .loop .n) (l .loop .at) (l .loop .inv .1) (omega arith) (omega arith) (sym o ∙ c .before .if2 .left)),
     )
 
 mul-result : tie.Need-mul-result Inv-loop μ-loop

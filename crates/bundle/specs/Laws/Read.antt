@@ -136,7 +136,7 @@ module _ (b : List ℕ) (n : ℕ) where
         let f = found b n z .first in
         let l = part-length in
         let e : getD (sheetIn b n) 0 0 ≡ getD b (offset b n + 0) 0 =
-            ap (λ s. getD s 0 0) part-is ∙ getD-take (lengthAt b (offset b n)) (drop (offset b n) b) 0 0 (omega arith) ∙ getD-drop (offset b n) b 0 0 in
+        ap (λ s. getD s 0 0) part-is ∙ getD-take (lengthAt b (offset b n)) (drop (offset b n) b) 0 0 (omega arith) ∙ getD-drop (offset b n) b 0 0 in
         let i = ap (λ k. getD b k 0) (let i : offset b n + 0 ≡ offset b n = omega arith in i) in
         omega arith
 
@@ -154,11 +154,11 @@ module _ (b : List ℕ) (n : ℕ) where
   pub part-at : (start size : ℕ) → partOf b n ≡ At start size → (start + size ≤ length b) × (take size (drop start b) ≡ sheetIn b n)
   part-at start size e = elim (ℕ-discrete (bundleRefusal b n) 0) [
     | yes z ↦
-      let f = part-found z in
-      let p : start ≡ offset b n = cc in
-      let q : size ≡ lengthAt b (offset b n) = cc in
-      let l = found b n z .end in
-      (omega arith, ap₂ (λ k i. take k (drop i b)) q p ∙ sym (part-is z))
+        let f = part-found z in
+        let p : start ≡ offset b n = cc in
+        let q : size ≡ lengthAt b (offset b n) = cc in
+        let l = found b n z .end in
+        (omega arith, ap₂ (λ k i. take k (drop i b)) q p ∙ sym (part-is z))
     | no z ↦ let f = part-missing z in let x : _≡_ {A = ℕ} 0 1 = cc in absurd (omega arith)
   ]
 

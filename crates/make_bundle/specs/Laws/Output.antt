@@ -53,9 +53,9 @@ module _ (s old new : List ℕ) (a : Wrote) (room : longestWritten ≤ length ol
   pub made : (k : ℕ) → a ≡ Bytes k → (length (outputOf s) ≤ length old) × Appended (outputOf s) 0 old new k
   made k e = elim (ℕ-discrete (sheetsRefusal s) 0) [
     | yes z ↦
-      let f = answer-is z in
-      let x : k ≡ length (sheetsBundle s) = cc in
-      (done z .0, subst (λ k. Appended (outputOf s) 0 old new k) (ap length (output-is z) ∙ sym x) (done z .1))
+        let f = answer-is z in
+        let x : k ≡ length (sheetsBundle s) = cc in
+        (done z .0, subst (λ k. Appended (outputOf s) 0 old new k) (ap length (output-is z) ∙ sym x) (done z .1))
     | no n ↦ let f = refusal-is n in let x : _≡_ {A = ℕ} 0 1 = cc in absurd (omega arith)
   ]
 

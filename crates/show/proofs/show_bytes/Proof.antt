@@ -1,17 +1,17 @@
--- The invariant: n is within the sheet.
+-- The invariant: n is within the bytes.
 use Prim.Native.Nat.{_-_, _≤_}
 use lib.ListN.{length}
 use borrow.Author.Needs.{needs}
-use Rattle.show.proofs.show_sheet.Statement.{statement}
-use Rattle.show.proofs.show_sheet.Tie as tie
+use Rattle.show.proofs.show_bytes.Statement.{statement}
+use Rattle.show.proofs.show_bytes.Tie as tie
 use Rattle.show.proofs.show.Reads as show-reads
 use Rattle.show.proofs.show_number.Reads as show-number-reads
 
 abbrev Inv-loop : tie.InvT-loop
-Inv-loop word sheet n₀ t4 n = n ≤ length sheet
+Inv-loop word bytes n₀ t4 n = n ≤ length bytes
 
 abbrev μ-loop : tie.MeasureT-loop
-μ-loop word sheet n₀ t4 n = length sheet - n
+μ-loop word bytes n₀ t4 n = length bytes - n
 
 show-requires : tie.Need-show-requires Inv-loop μ-loop
 show-requires c κs = search needs
@@ -40,8 +40,8 @@ loop-again c = search needs
 returns : tie.Need-returns Inv-loop μ-loop
 returns c = search needs
 
-pub show-sheet-spec : {M : Type 1} → statement M
-show-sheet-spec =
+pub show-bytes-spec : {M : Type 1} → statement M
+show-bytes-spec =
     tie.close
     (tie.spec
     Inv-loop
