@@ -1,5 +1,6 @@
 /*
- * The CS cutter: operators, sheets and gate lists, and the CS states to order.
+ * The CS cutter: operators, sheets and gate lists, bundles of sheets, and the CS
+ * states to order.
  * Formats, numbers and the order of refusals are those of documents 01 and 02.
  *
  * Every call answers one 64-bit word:
@@ -7,8 +8,10 @@
  *   bits      what
  *   0 to 7    the refusal's number, 0 where there is none; with a refusal all
  *             other bits are 0
- *   8 to 31   the value: the count, or the figure of states to order
- *   32 to 47  the length: the letters written; 0 unless a gate list was written
+ *   8 to 31   the value: the count, the figure of states to order, the number of
+ *             bytes written, or the place of a part's first byte
+ *   32 to 47  the length: the letters written, or the length of a part; 0 unless a
+ *             gate list was written or a part found
  *   48 to 55  L: the cuts whose rows grouped as 2 and 4; 0 unless an operator was
  *             cut
  *   56 to 63  0
@@ -16,9 +19,10 @@
  * The functions at the end of this file take a word apart.
  *
  * A call reads the in_len bytes at `in` and writes nowhere but in the out_len
- * bytes at `out`. With a refusal no byte of `out` changes; on success the bytes
- * past the output keep theirs. Both pointers are valid for their lengths and not
- * null, also where a length is 0, and the two ranges do not overlap.
+ * bytes at `out`; a call without `out` writes nothing. With a refusal no byte of
+ * `out` changes; on success the bytes past the output keep theirs. Pointers are
+ * valid for their lengths and not null, also where a length is 0, and the two
+ * ranges do not overlap.
  */
 #ifndef DIMFRETS_H
 #define DIMFRETS_H
@@ -36,13 +40,15 @@ enum dimfrets_size {
     DIMFRETS_MIN_SHEET = 8,         /* the sheet of a Clifford; each generator adds one */
     DIMFRETS_MAX_SHEET = 36,        /* the sheet of an operator of count 28 */
     DIMFRETS_MAX_LETTERS = 8192,    /* the longest gate list that is read */
-    DIMFRETS_GATES_BUFFER = 7424    /* holds any gate list: 256 * (28 + 1) */
+    DIMFRETS_GATES_BUFFER = 7424,   /* holds any gate list: 256 * (28 + 1) */
+    DIMFRETS_BUNDLE_BUFFER = 19458  /* holds any bundle written: 512 * (36 + 2) + 2 */
 };
 
-/* Limits of counts and orders. */
+/* Limits of counts, orders and bundles. */
 enum dimfrets_limit {
     DIMFRETS_MAX_COUNT = 28,        /* the largest exponent k, and count t */
-    DIMFRETS_MAX_SPOILAGE = 1000    /* the largest spoilage, in thousandths */
+    DIMFRETS_MAX_SPOILAGE = 1000,   /* the largest spoilage, in thousandths */
+    DIMFRETS_MAX_SHEETS = 512       /* the most sheets of a bundle */
 };
 
 /* The refusals, by who causes them. */
@@ -55,7 +61,8 @@ enum dimfrets_refusal {
     DIMFRETS_NOT_PROPER = 5,          /* orthogonal, not proper */
     /* The lender of an output buffer. */
     DIMFRETS_BUFFER_TOO_SHORT = 6,    /* shorter than 256 * (t + 1) for a gate list, than the
-                                         sheet, or than 73 bytes for an operator */
+                                         sheet, than 73 bytes for an operator, or than the
+                                         bundle */
     /* The writer of a gate list. */
     DIMFRETS_TOO_MANY_LETTERS = 7,    /* more than 8,192 letters */
     DIMFRETS_UNKNOWN_LETTER = 8,      /* a byte that is no letter of the table */
@@ -69,7 +76,14 @@ enum dimfrets_refusal {
     DIMFRETS_SHEET_SIGN = 15,         /* a last byte above 1, or a negative column 1 */
     DIMFRETS_OTHER_SHEET = 13,        /* cutting its operator gives another sheet */
     /* Whoever orders states. */
-    DIMFRETS_ORDER_OUT_OF_RANGE = 14  /* t above 28 or p above 1000 */
+    DIMFRETS_ORDER_OUT_OF_RANGE = 14, /* t above 28 or p above 1000 */
+    /* The maker of a bundle. */
+    DIMFRETS_BUNDLE_TRAILER = 20,     /* no trailer of a fitting length, or more than 512 sheets */
+    DIMFRETS_BUNDLE_SHEETS = 21,      /* a sheet's first byte below 64, offsets that do not follow
+                                         the sheets, or sheets that do not end where the trailer
+                                         starts; bytes to bundle that are not sheets end to end */
+    /* Whoever asks for a sheet. */
+    DIMFRETS_NO_SHEET = 22            /* no sheet n */
 };
 
 /*
@@ -127,25 +141,62 @@ uint64_t dimfrets_sheet_to_operator(const uint8_t *in, size_t in_len,
  */
 uint64_t dimfrets_states_to_order(uint64_t t, uint64_t p);
 
+/*
+ * Finds a sheet in a bundle.
+ * Reads a bundle at `in`: up to 512 sheets end to end, each as long as its first byte
+ * less 56, and right after the last a trailer: for each sheet the offset of its first
+ * byte, from 0 up, then the number of sheets, each of them 16 bits, low byte first.
+ * The bundle of no sheets is two zero bytes. Answers where sheet n, counted from 0,
+ * stands: it is the part of `length` bytes at `in + value`. A part that is found is
+ * not empty and lies before the trailer; with a refusal the length is 0. The part has
+ * 8 to 199 bytes, of which the first alone is looked at, so it may earn the refusals
+ * of a sheet when it is read.
+ * Refusals, the first that holds: 20 (in_len below 2, or below 2 * number + 2, or a
+ * number above 512); 21 (a first byte below 64, an offset that is not where the
+ * sheets before it end, or sheets that do not end where the trailer starts); 22 (n
+ * not below the number).
+ */
+uint64_t dimfrets_bundle_sheet(const uint8_t *in, size_t in_len, uint64_t n);
+
+/*
+ * Bundles sheets.
+ * Reads sheets at `in`, laid end to end; there may be none. Writes the bundle of them
+ * at `out`: their bytes as they are, then the trailer. Answers the number of bytes
+ * written, in_len + 2 * number + 2. A sheet stands whole if its first byte is from 64
+ * to 92 and as many bytes as that less 56 are there; no other byte of it is looked
+ * at, so it may earn the refusals of a sheet when it is read.
+ * Refusals, the first that holds: 20 (at least 513 sheets stand whole, end to end,
+ * from the front, whatever follows); 21 (those that stand whole do not end where the
+ * bytes end); 6 (out_len below in_len + 2 * number + 2).
+ */
+uint64_t dimfrets_sheets_to_bundle(const uint8_t *in, size_t in_len,
+                                   uint8_t *out, size_t out_len);
+
 /* Whether an answer is a refusal: 1 or 0. */
 static inline int dimfrets_is_refused(uint64_t answer)
 {
     return (answer & 0xFF) != 0;
 }
 
-/* The number of a refusal, 1 to 16; 0 if the answer is none. */
+/* The number of a refusal, 1 to 16 or 20 to 22; 0 if the answer is none. */
 static inline unsigned dimfrets_refusal_number(uint64_t answer)
 {
     return (unsigned)(answer & 0xFF);
 }
 
-/* The count, or the figure of states to order; of an answer that is no refusal. */
+/*
+ * The count, the figure of states to order, the number of bytes written, or the place
+ * of a part's first byte, counted from `in`; of an answer that is no refusal.
+ */
 static inline unsigned dimfrets_value(uint64_t answer)
 {
     return (unsigned)(answer >> 8 & 0xFFFFFF);
 }
 
-/* The number of letters written; 0 unless a gate list was written. */
+/*
+ * The number of letters written, or the length of a part; 0 unless a gate list was
+ * written or a part found.
+ */
 static inline size_t dimfrets_length(uint64_t answer)
 {
     return (size_t)(answer >> 32 & 0xFFFF);

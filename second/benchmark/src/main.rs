@@ -12,7 +12,12 @@ const COUNTS: [u8; 4] = [0, 7, 14, 28];
 const INPUTS: usize = 64;
 const ROUNDS: usize = 15;
 const ROUND_TIME: Duration = Duration::from_millis(15);
-const BUFFER: usize = dimfrets::GATES_BUFFER;
+const BUFFER: usize = dimfrets::BUNDLE_BUFFER;
+const SHEETS: usize = dimfrets::MAX_SHEETS;
+const LAST_SHEET: u64 = SHEETS as u64 - 1;
+
+// One buffer holds whatever a call writes.
+const _: () = assert!(BUFFER >= dimfrets::GATES_BUFFER);
 
 /// One run of a call; the number keeps it from being left out.
 type Run = fn(&[u8], &mut [u8]) -> u64;
@@ -25,7 +30,7 @@ struct Subject {
     plain: Run,
 }
 
-const SUBJECTS: [Subject; 5] = [
+const SUBJECTS: [Subject; 7] = [
     Subject {
         name: "operator_to_sheet",
         input: operator_file,
@@ -59,6 +64,18 @@ const SUBJECTS: [Subject; 5] = [
                 .into()
         },
         plain: |order, _| plain::states_to_order(t(order), p(order)).unwrap(),
+    },
+    Subject {
+        name: "bundle_sheet",
+        input: bundle,
+        dimfrets: |bundle, _| dimfrets::bundle_sheet(bundle, LAST_SHEET).unwrap().len() as u64,
+        plain: |bundle, _| plain::bundle_sheet(bundle, LAST_SHEET).unwrap().len() as u64,
+    },
+    Subject {
+        name: "sheets_to_bundle",
+        input: sheets,
+        dimfrets: |sheets, out| dimfrets::sheets_to_bundle(sheets, out).unwrap() as u64,
+        plain: |sheets, out| plain::sheets_to_bundle(sheets, out).unwrap() as u64,
     },
 ];
 
@@ -131,6 +148,19 @@ fn gate_list(random: &mut Random, count: u8) -> Vec<u8> {
     let (_, letters) = written.expect("an accepted operator");
     list.truncate(letters);
     list
+}
+
+/// As many sheets of the count as a bundle holds, all of them the same.
+fn sheets(random: &mut Random, count: u8) -> Vec<u8> {
+    samples::sheet(random, count).repeat(SHEETS)
+}
+
+/// The bundle of such sheets.
+fn bundle(random: &mut Random, count: u8) -> Vec<u8> {
+    let mut bundle = vec![0; BUFFER];
+    let written = plain::sheets_to_bundle(&sheets(random, count), &mut bundle);
+    bundle.truncate(written.expect("as many sheets as there may be"));
+    bundle
 }
 
 /// t and p, the spoilage, as eight bytes each.

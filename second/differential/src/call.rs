@@ -1,11 +1,12 @@
-//! The five calls and their answers, as numbers that both implementations share.
+//! The seven calls and their answers, as numbers that both implementations share.
 
 use std::panic::{catch_unwind, AssertUnwindSafe};
 
 use dimfrets::Refusal;
 
-// A buffer of the wrapper's size holds the longest sheet, and has no byte more.
+// Buffers of the wrapper's sizes hold the longest sheet and the longest bundle, and have no byte more.
 const _: () = assert!(dimfrets::MAX_SHEET == plain::sheet::MAX_SHEET);
+const _: () = assert!(dimfrets::BUNDLE_BUFFER == plain::bundle::MAX_BUNDLE);
 
 /// A call of the interface.
 #[derive(Clone, Copy, Debug, PartialEq, Eq)]
@@ -15,15 +16,19 @@ pub enum Call {
     GatesToOperator,
     SheetToOperator,
     StatesToOrder,
+    BundleSheet,
+    SheetsToBundle,
 }
 
 /// All calls, in the order of their discriminants.
-pub const CALLS: [Call; 5] = [
+pub const CALLS: [Call; 7] = [
     Call::OperatorToSheet,
     Call::OperatorToGates,
     Call::GatesToOperator,
     Call::SheetToOperator,
     Call::StatesToOrder,
+    Call::BundleSheet,
+    Call::SheetsToBundle,
 ];
 
 /// What a call answered.
@@ -35,6 +40,10 @@ pub enum Answer {
         letters: usize,
         loose: u8,
     },
+    /// The number of bytes written.
+    Written(usize),
+    /// A part of the bundle: the place of its first byte, and its length.
+    Part { place: usize, length: usize },
     /// The refusal's number.
     Refused(u8),
     /// A word that the interface does not know.
@@ -73,6 +82,8 @@ impl Call {
             Call::GatesToOperator => "gates_to_operator",
             Call::SheetToOperator => "sheet_to_operator",
             Call::StatesToOrder => "states_to_order",
+            Call::BundleSheet => "bundle_sheet",
+            Call::SheetsToBundle => "sheets_to_bundle",
         }
     }
 
@@ -91,6 +102,14 @@ impl Call {
             Call::SheetToOperator => of_refusal(dimfrets::sheet_to_operator(input, out)),
             Call::StatesToOrder => {
                 of_refusal(dimfrets::states_to_order(word(input, 0), word(input, 1)))
+            }
+            Call::BundleSheet => {
+                let bundle = bundle(input);
+                let part = dimfrets::bundle_sheet(bundle, word(input, 0));
+                of_part(bundle, part.map_err(Refusal::number))
+            }
+            Call::SheetsToBundle => {
+                of_written(dimfrets::sheets_to_bundle(input, out).map_err(Refusal::number))
             }
         };
         catch_unwind(AssertUnwindSafe(call)).unwrap_or(Answer::Unknown)
@@ -112,6 +131,11 @@ impl Call {
             Call::StatesToOrder => {
                 of_number(plain::states_to_order(word(input, 0), word(input, 1)))
             }
+            Call::BundleSheet => {
+                let bundle = bundle(input);
+                of_part(bundle, plain::bundle_sheet(bundle, word(input, 0)))
+            }
+            Call::SheetsToBundle => of_written(plain::sheets_to_bundle(input, out)),
         }
     }
 }
@@ -119,6 +143,16 @@ impl Call {
 /// The input of an order: t and p as eight bytes each.
 pub fn order(t: u64, p: u64) -> Vec<u8> {
     [t.to_le_bytes(), p.to_le_bytes()].concat()
+}
+
+/// The input of a question for a sheet: n as eight bytes, then the bundle.
+pub fn question(n: u64, bundle: &[u8]) -> Vec<u8> {
+    [&n.to_le_bytes(), bundle].concat()
+}
+
+/// The bundle of a question.
+pub fn bundle(input: &[u8]) -> &[u8] {
+    &input[size_of::<u64>()..]
 }
 
 fn word(input: &[u8], index: usize) -> u64 {
@@ -142,5 +176,23 @@ fn of_cuts(count: u8, letters: usize, loose: u8) -> Answer {
         count: count.into(),
         letters,
         loose,
+    }
+}
+
+fn of_written(answer: Result<usize, u8>) -> Answer {
+    match answer {
+        Ok(bytes) => Answer::Written(bytes),
+        Err(number) => Answer::Refused(number),
+    }
+}
+
+/// Where a part stands, told by its address: equal bytes at another place are another part.
+fn of_part(bundle: &[u8], answer: Result<&[u8], u8>) -> Answer {
+    match answer {
+        Ok(part) => Answer::Part {
+            place: part.as_ptr().addr().wrapping_sub(bundle.as_ptr().addr()),
+            length: part.len(),
+        },
+        Err(number) => Answer::Refused(number),
     }
 }

@@ -1,12 +1,14 @@
 //! The judge runs one input on both implementations and compares. It ends the program at the first
 //! difference.
 
+use plain::bundle::MAX_BUNDLE;
 use plain::gate::{image, LETTERS_PER_COUNT};
 use plain::operator::{Operator, OPERATOR_BYTES};
+use plain::refusal::NO_SHEET;
 use plain::sheet::{MAX_SHEET, MIN_SHEET};
 use samples::Random;
 
-use crate::call::{Answer, Call};
+use crate::call::{self, Answer, Call};
 use crate::lent::Lent;
 use crate::tally::Tally;
 
@@ -64,6 +66,9 @@ impl Judge {
         };
         case.check(lent_input.unchanged_past(0));
         self.tally.add(call, tested, case.last_byte());
+        if let Some(bundle) = case.bundle() {
+            self.tally.add_bundle(call, tested, bundle);
+        }
         (tested, case.output().to_vec())
     }
 
@@ -78,7 +83,11 @@ impl Judge {
             Call::OperatorToSheet => count() + MIN_SHEET,
             Call::OperatorToGates => LETTERS_PER_COUNT * (count() + 1),
             Call::GatesToOperator | Call::SheetToOperator => OPERATOR_BYTES,
-            Call::StatesToOrder => 0,
+            Call::StatesToOrder | Call::BundleSheet => 0,
+            Call::SheetsToBundle => {
+                let written = plain::sheets_to_bundle(input, &mut [0; MAX_BUNDLE]);
+                written.unwrap_or_else(|_| self.random.below(MAX_BUNDLE))
+            }
         }
     }
 }
@@ -94,7 +103,7 @@ impl Case<'_> {
             "the answers differ",
         );
         let fits = self.written(*tested) <= tested_out.middle().len();
-        self.demand(fits, "more letters are answered than the buffer holds");
+        self.demand(fits, "more bytes are answered than the buffer holds");
         let kept = tested_out.unchanged_past(self.written(*tested));
         self.demand(kept, "a byte outside the output changed");
         let plain_kept = plain_out.unchanged_past(self.written(*plain));
@@ -133,14 +142,12 @@ impl Case<'_> {
 
     /// The number of bytes that a call with this answer writes.
     fn written(&self, answer: Answer) -> usize {
-        let Answer::Count { count, letters, .. } = answer else {
-            return 0;
-        };
-        match self.call {
-            Call::OperatorToSheet => count as usize + MIN_SHEET,
-            Call::OperatorToGates => letters,
-            Call::GatesToOperator | Call::SheetToOperator => OPERATOR_BYTES,
-            Call::StatesToOrder => 0,
+        match (self.call, answer) {
+            (Call::OperatorToSheet, Answer::Count { count, .. }) => count as usize + MIN_SHEET,
+            (Call::OperatorToGates, Answer::Count { letters, .. }) => letters,
+            (Call::GatesToOperator | Call::SheetToOperator, Answer::Count { .. }) => OPERATOR_BYTES,
+            (Call::SheetsToBundle, Answer::Written(bytes)) => bytes,
+            _ => 0,
         }
     }
 
@@ -158,6 +165,15 @@ impl Case<'_> {
             _ => return None,
         };
         sheet.last().copied()
+    }
+
+    /// The bundle that was written or read, if one was; it was also read where it has no sheet n.
+    fn bundle(&self) -> Option<&[u8]> {
+        match self.tested.0 {
+            Answer::Written(_) => Some(self.output()),
+            Answer::Part { .. } | Answer::Refused(NO_SHEET) => Some(call::bundle(self.input)),
+            _ => None,
+        }
     }
 
     fn demand(&self, holds: bool, otherwise: &str) {

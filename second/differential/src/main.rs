@@ -3,6 +3,7 @@
 
 #![forbid(unsafe_code)]
 
+mod bundles;
 mod call;
 mod judge;
 mod lent;
@@ -24,6 +25,7 @@ fn main() -> ExitCode {
     lists::run(&mut judge);
     sheets::run(&mut judge);
     orders::run(&mut judge);
+    bundles::run(&mut judge);
     judge.tally.print();
     let gaps = judge.tally.gaps();
     for gap in &gaps {

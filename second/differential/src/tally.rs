@@ -1,21 +1,45 @@
-//! How often each call ran, each refusal came, and each count, or figure of states, each L and each
-//! last byte of a sheet was seen.
+//! How often each call ran, each refusal came, and each count, or figure of states, each L, each last
+//! byte of a sheet, each number of sheets in a bundle, and each length and position of a part of one
+//! was seen.
+
+use std::fmt::Display;
+
+use dimfrets::Refusal;
+use plain::bundle::{MAX_PART, MAX_SHEETS, NUMBER_BYTES};
+use plain::sheet::MIN_SHEET;
 
 use crate::call::{Answer, Call, CALLS};
 
-const REFUSALS: usize = 16;
+const REFUSALS: usize = 256;
 const COUNTS: usize = 29;
 const FIGURES: usize = 57;
 const LOOSE: usize = 28;
 const LAST_BYTES: usize = 2;
+const NUMBERS_OF_SHEETS: usize = MAX_SHEETS + 1;
+const PART_LENGTHS: usize = MAX_PART + 1;
 const LEAST_INPUTS: u64 = 200_000;
 const LEAST_PER_REFUSAL: u64 = 1000;
+
+/// The calls that answer a count, or a figure of states.
+const COUNTING_CALLS: [Call; 5] = [
+    Call::OperatorToSheet,
+    Call::OperatorToGates,
+    Call::GatesToOperator,
+    Call::SheetToOperator,
+    Call::StatesToOrder,
+];
 
 /// The calls that cut an operator; L is below the count.
 const CUTTING_CALLS: [Call; 2] = [Call::OperatorToSheet, Call::OperatorToGates];
 
 /// The calls that write or read sheets.
 const SHEET_CALLS: [Call; 2] = [Call::OperatorToSheet, Call::SheetToOperator];
+
+/// The calls that write or read bundles.
+const BUNDLE_CALLS: [Call; 2] = [Call::BundleSheet, Call::SheetsToBundle];
+
+/// Where a part stands among the sheets of its bundle.
+const POSITIONS: [&str; 4] = ["between others", "first", "last", "alone"];
 
 /// The tally of all calls.
 pub struct Tally {
@@ -24,6 +48,9 @@ pub struct Tally {
     counts: [Vec<u64>; CALLS.len()],
     loose: [[u64; LOOSE]; CALLS.len()],
     last_bytes: [[u64; LAST_BYTES]; CALLS.len()],
+    sheets: [[u64; NUMBERS_OF_SHEETS]; CALLS.len()],
+    part_lengths: [u64; PART_LENGTHS],
+    positions: [u64; POSITIONS.len()],
 }
 
 impl Tally {
@@ -34,6 +61,9 @@ impl Tally {
             counts: CALLS.map(|call| vec![0; counts(call)]),
             loose: [[0; LOOSE]; CALLS.len()],
             last_bytes: [[0; LAST_BYTES]; CALLS.len()],
+            sheets: [[0; NUMBERS_OF_SHEETS]; CALLS.len()],
+            part_lengths: [0; PART_LENGTHS],
+            positions: [0; POSITIONS.len()],
         }
     }
 
@@ -41,38 +71,63 @@ impl Tally {
     pub fn add(&mut self, call: Call, answer: Answer, last_byte: Option<u8>) {
         self.inputs[call as usize] += 1;
         match answer {
-            Answer::Refused(number) => self.refusals[usize::from(number) - 1] += 1,
+            Answer::Refused(number) => self.refusals[usize::from(number)] += 1,
             Answer::Count { count, loose, .. } => {
                 self.counts[call as usize][count as usize] += 1;
                 self.loose[call as usize][usize::from(loose)] += 1;
             }
-            Answer::Unknown => {}
+            Answer::Written(_) | Answer::Part { .. } | Answer::Unknown => {}
         }
         if let Some(last_byte) = last_byte {
             self.last_bytes[call as usize][usize::from(last_byte)] += 1;
         }
     }
 
-    /// Prints a line for each call, one for the refusals, one for the counts of each call, one for the
-    /// L of each call that cuts and one for the last bytes of each call with sheets.
+    /// Counts a bundle that was written or read, and the part of it that was handed back, if one was.
+    pub fn add_bundle(&mut self, call: Call, answer: Answer, bundle: &[u8]) {
+        let number = bundle.last_chunk().expect("a bundle says its number");
+        let number = usize::from(u16::from_le_bytes(*number));
+        self.sheets[call as usize][number] += 1;
+        if let Answer::Part { place, length } = answer {
+            let trailer = bundle.len() - NUMBER_BYTES * (number + 1);
+            let (is_first, is_last) = (place == 0, place + length == trailer);
+            self.part_lengths[length] += 1;
+            self.positions[usize::from(is_first) + 2 * usize::from(is_last)] += 1;
+        }
+    }
+
+    /// Prints a line for each call, one for the refusals, one for the counts of each call that answers
+    /// them, one for the L of each call that cuts, one for the last bytes of each call with sheets, one
+    /// for the numbers of sheets of each call with bundles, and two for the parts.
     pub fn print(&self) {
         for (call, inputs) in CALLS.iter().zip(self.inputs) {
             println!("{}: {inputs} inputs", call.name());
         }
         println!("inputs in all: {}", self.inputs.iter().sum::<u64>());
-        println!("refusals:{}", numbered(1, &self.refusals));
-        for call in CALLS {
-            let times = numbered(0, &self.counts[call as usize]);
+        println!("refusals:{}", listed(self.refusals()));
+        for call in COUNTING_CALLS {
+            let times = numbered(&self.counts[call as usize]);
             println!("counts of {}:{times}", call.name());
         }
         for call in CUTTING_CALLS {
-            let times = numbered(0, &self.loose[call as usize]);
+            let times = numbered(&self.loose[call as usize]);
             println!("L of {}:{times}", call.name());
         }
         for call in SHEET_CALLS {
-            let times = numbered(0, &self.last_bytes[call as usize]);
+            let times = numbered(&self.last_bytes[call as usize]);
             println!("last bytes of {}:{times}", call.name());
         }
+        for call in BUNDLE_CALLS {
+            let least = least(&self.sheets[call as usize]);
+            println!(
+                "sheets in a bundle of {}: 0 to {MAX_SHEETS}, each at least {least} times",
+                call.name()
+            );
+        }
+        let least = least(&self.part_lengths[MIN_SHEET..]);
+        println!("lengths of parts: {MIN_SHEET} to {MAX_PART}, each at least {least} times");
+        let times = POSITIONS.into_iter().zip(self.positions);
+        println!("positions of parts:{}", listed(times));
     }
 
     /// What was seen too seldom.
@@ -81,12 +136,12 @@ impl Tally {
         if self.inputs.iter().sum::<u64>() < LEAST_INPUTS {
             gaps.push("inputs in all".to_owned());
         }
-        for (number, &times) in (1..).zip(&self.refusals) {
+        for (number, times) in self.refusals() {
             if times < LEAST_PER_REFUSAL {
                 gaps.push(format!("refusal {number}"));
             }
         }
-        for call in CALLS {
+        for call in COUNTING_CALLS {
             gaps.extend(missing("count", call, &self.counts[call as usize]));
         }
         for call in CUTTING_CALLS {
@@ -95,7 +150,27 @@ impl Tally {
         for call in SHEET_CALLS {
             gaps.extend(missing("last byte", call, &self.last_bytes[call as usize]));
         }
+        for call in BUNDLE_CALLS {
+            let times = &self.sheets[call as usize];
+            gaps.extend(missing("number of sheets", call, times));
+        }
+        for length in MIN_SHEET..=MAX_PART {
+            if self.part_lengths[length] == 0 {
+                gaps.push(format!("parts of length {length}"));
+            }
+        }
+        for (position, times) in POSITIONS.iter().zip(self.positions) {
+            if times == 0 {
+                gaps.push(format!("parts {position}"));
+            }
+        }
         gaps
+    }
+
+    /// The number of each refusal, and how often it came.
+    fn refusals(&self) -> impl Iterator<Item = (u8, u64)> + '_ {
+        let numbers = Refusal::ALL.into_iter().map(Refusal::number);
+        numbers.map(|number| (number, self.refusals[usize::from(number)]))
     }
 }
 
@@ -114,10 +189,17 @@ fn counts(call: Call) -> usize {
     }
 }
 
-fn numbered(first: usize, times: &[u64]) -> String {
-    let pairs = (first..).zip(times);
-    pairs
-        .map(|(number, times)| format!(" {number}: {times}"))
+fn least(times: &[u64]) -> u64 {
+    times.iter().copied().min().unwrap_or(0)
+}
+
+fn numbered(times: &[u64]) -> String {
+    listed((0..).zip(times.iter().copied()))
+}
+
+fn listed<T: Display>(times: impl Iterator<Item = (T, u64)>) -> String {
+    times
+        .map(|(what, times)| format!(" {what}: {times}"))
         .collect::<Vec<_>>()
         .join(",")
 }

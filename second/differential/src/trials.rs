@@ -1,14 +1,16 @@
 //! The cases of document 01, "Trial cuts", with the first byte of document 02, P4, the last byte of P2
-//! and the L of P3, the example of `cut`, and the orders of document 02, P1, on both implementations.
+//! and the L of P3, the example of `cut`, the orders of document 02, P1, and small bundles of P7, on
+//! both implementations.
 
 use std::fmt::Debug;
 
 use plain::gate::LETTERS_PER_COUNT;
 use plain::matrix::{scale, Matrix, IDENTITY};
 use plain::operator::{Operator, OPERATOR_BYTES};
+use plain::refusal::BUNDLE_SHEETS;
 use plain::sheet::MIN_SHEET;
 
-use crate::call::{order, Answer, Call};
+use crate::call::{order, question, Answer, Call};
 use crate::judge::Judge;
 
 const CUT_EXAMPLE: Matrix = [
@@ -61,6 +63,37 @@ const ORDERS: [(u64, u64, u64); 7] = [
     (3, 500, 5),
 ];
 
+/// Sheets with their places in a bundle, and its trailer.
+const BUNDLED: [(&[u8], usize); 3] = [(IDENTITY_SHEET, 0), (C_SHEET, 8), (CHC_SHEET, 17)];
+const TRAILER: &[u8] = &[0, 0, 8, 0, 17, 0, 3, 0];
+
+/// Bundles, the sheets that they are asked for, and the refusals that this earns.
+const REFUSED_BUNDLES: [(&[u8], u64, u8); 15] = [
+    (&[], 0, 20),
+    (&[0], 0, 20),
+    (&[1, 0], 0, 20),
+    (&[63, 1, 0], 1, 20),
+    (&[0, 0, 0], 0, 21),
+    (&[0, 0, 1, 0], 0, 21),
+    (&[63, 1, 2, 3, 4, 5, 6, 0, 0, 1, 0], 1, 21),
+    (&[64, 1, 2, 3, 4, 5, 6, 0, 1, 0, 1, 0], 0, 21),
+    (&[65, 1, 2, 3, 4, 5, 6, 0, 0, 0, 1, 0], 0, 21),
+    (&[64, 1, 2, 3, 4, 5, 6, 0, 0, 0, 0, 1, 0], 0, 21),
+    (&[64, 1, 2, 3, 4, 5, 6, 0, 0, 0], 0, 21),
+    (&[64, 1, 2, 3, 4, 5, 6, 0, 0, 0, 1, 0], 1, 22),
+    (&[64, 1, 2, 3, 4, 5, 6, 0, 0, 0, 1, 0], 1 << 32, 22),
+    (&[0, 0], 0, 22),
+    (&[0, 0], u64::MAX, 22),
+];
+
+/// Bytes that are not sheets end to end.
+const NO_SHEETS: [&[u8]; 4] = [
+    &[0],
+    &[63, 1, 2, 3, 4, 5, 6],
+    &[64, 1, 2, 3, 4, 5, 6],
+    &[64, 1, 2, 3, 4, 5, 6, 0, 64],
+];
+
 /// Runs all trial cuts.
 pub fn run(judge: &mut Judge) {
     accepted_operators(judge);
@@ -68,6 +101,8 @@ pub fn run(judge: &mut Judge) {
     gate_lists(judge);
     refused_sheets(judge);
     orders(judge);
+    bundles(judge);
+    refused_bundles(judge);
 }
 
 fn accepted_operators(judge: &mut Judge) {
@@ -134,6 +169,31 @@ fn orders(judge: &mut Judge) {
     }
 }
 
+fn bundles(judge: &mut Judge) {
+    let sheets = BUNDLED.map(|(sheet, _)| sheet).concat();
+    let bundle = [&sheets, TRAILER].concat();
+    for (sheets, bundle) in [(&sheets[..], &bundle[..]), (&[], &[0, 0])] {
+        let answer = Answer::Written(bundle.len());
+        expect(judge, Call::SheetsToBundle, sheets, answer, bundle);
+    }
+    for (n, (sheet, place)) in (0..).zip(BUNDLED) {
+        let length = sheet.len();
+        let answer = Answer::Part { place, length };
+        expect(judge, Call::BundleSheet, &question(n, &bundle), answer, &[]);
+    }
+}
+
+fn refused_bundles(judge: &mut Judge) {
+    for (bundle, n, number) in REFUSED_BUNDLES {
+        let answer = Answer::Refused(number);
+        expect(judge, Call::BundleSheet, &question(n, bundle), answer, &[]);
+    }
+    for bytes in NO_SHEETS {
+        let answer = Answer::Refused(BUNDLE_SHEETS);
+        expect(judge, Call::SheetsToBundle, bytes, answer, &[]);
+    }
+}
+
 /// The list multiplies to the operator of the sheet and of this L.
 fn list_cuts(judge: &mut Judge, list: &[u8], sheet: &[u8], loose: u8) {
     let (_, file) = judge.run_with(Call::GatesToOperator, list, OPERATOR_BYTES);
@@ -164,7 +224,7 @@ fn refused_operator(judge: &mut Judge, file: &[u8], number: u8) {
 
 /// Ends the program unless the call gives this answer and output, with a buffer that is exactly
 /// long enough and with one that is longer.
-fn expect(judge: &mut Judge, call: Call, input: &[u8], answer: Answer, output: &[u8]) {
+pub fn expect(judge: &mut Judge, call: Call, input: &[u8], answer: Answer, output: &[u8]) {
     for out_len in [output.len(), output.len() + 100] {
         let outcome = judge.run_with(call, input, out_len);
         same(call, input, &outcome, &(answer, output.to_vec()));
@@ -174,7 +234,7 @@ fn expect(judge: &mut Judge, call: Call, input: &[u8], answer: Answer, output: &
 /// Ends the program unless both implementations gave what the papers say.
 fn same<T: Debug + PartialEq>(call: Call, input: &[u8], given: &T, expected: &T) {
     if given != expected {
-        println!("trial cut, {}: input {input:?}", call.name());
+        println!("{}: input {input:?}", call.name());
         println!("expected {expected:?}; both gave {given:?}");
         std::process::exit(1);
     }

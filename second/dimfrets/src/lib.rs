@@ -34,6 +34,24 @@
 //! assert_eq!(dimfrets::states_to_order(28, 50), Ok(29));
 //! # Ok::<(), dimfrets::Refusal>(())
 //! ```
+//!
+//! Its sheet behind that of the identity, in a bundle: the sheets, their offsets, and how many there
+//! are.
+//!
+//! ```
+//! let sheets = [64, 1, 2, 3, 4, 5, 6, 0, 66, 3, 13, 3, 130, 1, 4, 5, 6, 0];
+//! let mut out = vec![0; dimfrets::BUNDLE_BUFFER];
+//! let written = dimfrets::sheets_to_bundle(&sheets, &mut out)?;
+//! let bundle = &out[..written];
+//! assert_eq!(bundle[..18], sheets);
+//! assert_eq!(bundle[18..], [0, 0, 8, 0, 2, 0]);
+//!
+//! let sheet = dimfrets::bundle_sheet(bundle, 1)?;
+//! assert_eq!(sheet, &bundle[8..18]);
+//! let mut file = [0; dimfrets::OPERATOR_BYTES];
+//! assert_eq!(dimfrets::sheet_to_operator(sheet, &mut file), Ok(2));
+//! # Ok::<(), dimfrets::Refusal>(())
+//! ```
 
 #![deny(unsafe_op_in_unsafe_fn)]
 
@@ -49,6 +67,11 @@ pub const MAX_SHEET: usize = 36;
 pub const MAX_LETTERS: usize = 8192;
 /// The length of a buffer that holds any gate list written.
 pub const GATES_BUFFER: usize = 256 * 29;
+/// The most sheets of a bundle.
+pub const MAX_SHEETS: usize = 512;
+/// The length of a buffer that holds any bundle written: for each sheet its bytes and two of its
+/// offset, and two of the number of sheets.
+pub const BUNDLE_BUFFER: usize = MAX_SHEETS * (MAX_SHEET + 2) + 2;
 
 /// What a written sheet has: its count, and L, the number of cuts whose rows grouped as 2 and 4.
 #[derive(Clone, Copy, Debug, PartialEq, Eq)]
@@ -75,6 +98,8 @@ extern "C" {
     fn dimfrets_gates_to_operator(i: *const u8, i_len: usize, o: *mut u8, o_len: usize) -> u64;
     fn dimfrets_sheet_to_operator(i: *const u8, i_len: usize, o: *mut u8, o_len: usize) -> u64;
     fn dimfrets_states_to_order(t: u64, p: u64) -> u64;
+    fn dimfrets_bundle_sheet(i: *const u8, i_len: usize, n: u64) -> u64;
+    fn dimfrets_sheets_to_bundle(i: *const u8, i_len: usize, o: *mut u8, o_len: usize) -> u64;
 }
 
 /// Cuts an operator file into its sheet and answers the count t and L, which is below t, or 0 where t
@@ -121,15 +146,48 @@ pub fn states_to_order(t: u64, p: u64) -> Result<u8, Refusal> {
     count(unsafe { dimfrets_states_to_order(t, p) })
 }
 
+/// Sheet `n` of a bundle, counted from 0, as that part of the bundle. It is not empty and lies before
+/// the trailer. It has 8 to 199 bytes, of which the first alone is looked at, so it may earn the
+/// refusals of [`sheet_to_operator`].
+///
+/// Refuses with [`Refusal::BundleTrailer`], [`Refusal::BundleSheets`] or [`Refusal::NoSheet`], in this
+/// order.
+pub fn bundle_sheet(bundle: &[u8], n: u64) -> Result<&[u8], Refusal> {
+    let lent = readable(bundle);
+    // SAFETY: the pointer is valid for the length, and the call writes nothing.
+    let word = unsafe { dimfrets_bundle_sheet(lent.as_ptr(), bundle.len(), n) };
+    part_of(bundle, word)
+}
+
+/// Writes the bundle of sheets that lie end to end, and answers its number of bytes: those of the
+/// sheets, and two for each sheet and two more. A sheet's first byte is from 64 to 92; no other byte
+/// of it is looked at.
+///
+/// Refuses with [`Refusal::BundleTrailer`] where 513 sheets or more lie end to end from the front, then
+/// with [`Refusal::BundleSheets`] where something else follows the sheets, then with
+/// [`Refusal::BufferTooShort`].
+pub fn sheets_to_bundle(sheets: &[u8], out: &mut [u8]) -> Result<usize, Refusal> {
+    bytes_written(run(dimfrets_sheets_to_bundle, sheets, out))
+}
+
 /// Lends both slices to a call. An empty slice is lent as an existing byte with the length 0, for
 /// its own pointer may point nowhere.
 fn run(call: Call, input: &[u8], out: &mut [u8]) -> u64 {
     let (in_len, out_len) = (input.len(), out.len());
-    let input = if in_len == 0 { &[0][..] } else { input };
+    let input = readable(input);
     let spare = &mut [0][..];
     let out = if out_len == 0 { spare } else { out };
     // SAFETY: both are valid for their lengths; a shared and an exclusive borrow are apart.
     unsafe { call(input.as_ptr(), in_len, out.as_mut_ptr(), out_len) }
+}
+
+/// The slice, or an existing byte in place of an empty one.
+fn readable(input: &[u8]) -> &[u8] {
+    if input.is_empty() {
+        &[0]
+    } else {
+        input
+    }
 }
 
 /// The parts of an answer that is no refusal.
@@ -137,6 +195,21 @@ struct Parts {
     value: u32,
     length: u16,
     loose: u8,
+}
+
+impl Parts {
+    fn without_length(self) -> Parts {
+        assert_eq!(
+            self.length, 0,
+            "only a gate list or a part of a bundle has a length"
+        );
+        self
+    }
+
+    fn without_loose(self) -> Parts {
+        assert_eq!(self.loose, 0, "only an operator that is cut has an L");
+        self
+    }
 }
 
 /// Takes the word of an answer apart: the refusal's number in bits 0 to 7, the value in 8 to 31,
@@ -157,15 +230,26 @@ fn parts(word: u64) -> Result<Parts, Refusal> {
 
 /// The count of an answer with no other part.
 fn count(word: u64) -> Result<u8, Refusal> {
-    let cuts = cuts(word)?;
-    assert_eq!(cuts.loose, 0, "only an operator that is cut has an L");
-    Ok(cuts.count)
+    let parts = parts(word)?.without_length().without_loose();
+    Ok(byte(parts.value))
+}
+
+/// The number of bytes written, of an answer with no other part.
+fn bytes_written(word: u64) -> Result<usize, Refusal> {
+    let parts = parts(word)?.without_length().without_loose();
+    Ok(parts.value as usize)
+}
+
+/// The part of a bundle whose place and length an answer says.
+fn part_of(bundle: &[u8], word: u64) -> Result<&[u8], Refusal> {
+    let parts = parts(word)?.without_loose();
+    let start = parts.value as usize;
+    Ok(&bundle[start..start + usize::from(parts.length)])
 }
 
 /// The count of a written sheet, and L.
 fn cuts(word: u64) -> Result<Cuts, Refusal> {
-    let parts = parts(word)?;
-    assert_eq!(parts.length, 0, "only a gate list has a length");
+    let parts = parts(word)?.without_length();
     Ok(Cuts {
         count: byte(parts.value),
         loose: parts.loose,
@@ -216,6 +300,11 @@ mod tests {
         assert_eq!(count(14), Err(Refusal::OrderOutOfRange));
         assert_eq!(count(15), Err(Refusal::SheetSign));
         assert_eq!(count(16), Err(Refusal::SheetCount));
+        assert_eq!(bytes_written(0xFF_FFFF << 8), Ok(0xFF_FFFF));
+        assert_eq!(bytes_written(20), Err(Refusal::BundleTrailer));
+        assert_eq!(part_of(&[7, 8, 9], 2 << 32 | 1 << 8), Ok(&[8, 9][..]));
+        assert_eq!(part_of(&[7, 8, 9], 21), Err(Refusal::BundleSheets));
+        assert_eq!(part_of(&[], 22), Err(Refusal::NoSheet));
     }
 
     #[test]
@@ -237,6 +326,18 @@ mod tests {
     }
 
     #[test]
+    #[should_panic(expected = "no other part")]
+    fn a_refusal_has_no_place() {
+        let _ = part_of(&[0; 16], 8 << 8 | 22);
+    }
+
+    #[test]
+    #[should_panic(expected = "no other part")]
+    fn a_refusal_has_no_length() {
+        let _ = part_of(&[0; 16], 8 << 32 | 22);
+    }
+
+    #[test]
     #[should_panic(expected = "from bit 56 on")]
     fn no_answer_has_bit_56() {
         let _ = letters(1 << 56 | 28 << 8);
@@ -249,15 +350,57 @@ mod tests {
     }
 
     #[test]
+    #[should_panic(expected = "from bit 56 on")]
+    fn no_part_has_bit_56() {
+        let _ = part_of(&[0; 16], 1 << 56 | 8 << 32);
+    }
+
+    #[test]
     #[should_panic(expected = "only an operator that is cut")]
     fn only_an_operator_that_is_cut_has_an_l() {
         let _ = count(1 << 48 | 28 << 8);
     }
 
     #[test]
+    #[should_panic(expected = "only an operator that is cut")]
+    fn a_part_has_no_l() {
+        let _ = part_of(&[0; 16], 1 << 48 | 8 << 32);
+    }
+
+    #[test]
+    #[should_panic(expected = "out of range")]
+    fn a_part_ends_inside_its_bundle() {
+        let _ = part_of(&[0; 16], 8 << 32 | 9 << 8);
+    }
+
+    #[test]
+    #[should_panic(expected = "out of range")]
+    fn a_part_starts_inside_its_bundle() {
+        let _ = part_of(&[0; 16], 8 << 32 | 0xFF_FFFF << 8);
+    }
+
+    #[test]
+    #[should_panic(expected = "only an operator that is cut")]
+    fn a_bundle_has_no_l() {
+        let _ = bytes_written(1 << 48 | 2 << 8);
+    }
+
+    #[test]
     #[should_panic(expected = "only a gate list")]
-    fn only_a_gate_list_has_a_length() {
+    fn a_sheet_has_no_length() {
         let _ = cuts(1 << 32 | 28 << 8);
+    }
+
+    #[test]
+    #[should_panic(expected = "only a gate list")]
+    fn a_count_has_no_length() {
+        let _ = count(1 << 32 | 28 << 8);
+    }
+
+    #[test]
+    #[should_panic(expected = "only a gate list")]
+    fn a_bundle_has_no_length() {
+        let _ = bytes_written(1 << 32 | 2 << 8);
     }
 
     #[test]
@@ -311,6 +454,60 @@ mod tests {
     }
 
     #[test]
+    fn a_sheet_is_a_part_of_its_bundle() {
+        let sheets = [
+            [64, 1, 2, 3, 4, 5, 6, 0].as_slice(),
+            &[65, 3, 1, 2, 3, 4, 5, 6, 0],
+            &[66, 3, 13, 3, 130, 1, 4, 5, 6, 0],
+        ];
+        let trailer = [0, 0, 8, 0, 17, 0, 3, 0];
+        let end_to_end = sheets.concat();
+        let mut bundle = [9; 36];
+        assert_eq!(sheets_to_bundle(&end_to_end, &mut bundle), Ok(35));
+        assert_eq!(bundle[..27], end_to_end);
+        assert_eq!(bundle[27..], [&trailer[..], &[9]].concat());
+
+        let bundle = &bundle[..35];
+        for (n, place) in [(0, 0..8), (1, 8..17), (2, 17..27)] {
+            let part = bundle_sheet(bundle, n).unwrap();
+            assert_eq!(part.as_ptr_range(), bundle[place].as_ptr_range());
+        }
+        for n in [3, 256, 1 << 16, 1 << 32, u64::MAX] {
+            assert_eq!(bundle_sheet(bundle, n), Err(Refusal::NoSheet));
+        }
+        assert_eq!(bundle_sheet(&bundle[1..], 0), Err(Refusal::BundleSheets));
+        assert_eq!(bundle_sheet(&bundle[..34], 0), Err(Refusal::BundleTrailer));
+    }
+
+    #[test]
+    fn a_refused_bundle_is_not_written() {
+        let mut out = [9; BUNDLE_BUFFER];
+        let sheet = [64, 1, 2, 3, 4, 5, 6, 0];
+        let refusals = [
+            (sheet.repeat(MAX_SHEETS + 1), Refusal::BundleTrailer),
+            (sheet[..7].to_vec(), Refusal::BundleSheets),
+            ([&[93], &[1; 36][..]].concat(), Refusal::BundleSheets),
+        ];
+        for (sheets, refusal) in refusals {
+            assert_eq!(sheets_to_bundle(&sheets, &mut out), Err(refusal));
+        }
+        let short = &mut out[..11];
+        let refused = sheets_to_bundle(&sheet, short);
+        assert_eq!(refused, Err(Refusal::BufferTooShort));
+        assert_eq!(out, [9; BUNDLE_BUFFER]);
+    }
+
+    #[test]
+    fn the_longest_bundle_fills_its_buffer() {
+        let sheet = [&[92], &[1; MAX_SHEET - 1][..]].concat();
+        let mut out = vec![9; BUNDLE_BUFFER];
+        let written = sheets_to_bundle(&sheet.repeat(MAX_SHEETS), &mut out);
+        assert_eq!(written, Ok(BUNDLE_BUFFER));
+        assert_eq!(bundle_sheet(&out, 511), Ok(&out[511 * 36..512 * 36]));
+        assert_eq!(bundle_sheet(&out, 512), Err(Refusal::NoSheet));
+    }
+
+    #[test]
     fn empty_slices_are_lent() {
         assert_eq!(operator_to_sheet(&[], &mut []), Err(Refusal::FileLength));
         assert_eq!(operator_to_gates(&[], &mut []), Err(Refusal::FileLength));
@@ -321,5 +518,11 @@ mod tests {
         assert_eq!(sheet_to_operator(&[], &mut []), Err(Refusal::SheetLength));
         let mut out = [0; OPERATOR_BYTES];
         assert_eq!(gates_to_operator(&[], &mut out), Ok(0));
+        assert_eq!(bundle_sheet(&[], 0), Err(Refusal::BundleTrailer));
+        assert_eq!(sheets_to_bundle(&[], &mut []), Err(Refusal::BufferTooShort));
+        let mut out = [9; 3];
+        assert_eq!(sheets_to_bundle(&[], &mut out), Ok(2));
+        assert_eq!(out, [0, 0, 9]);
+        assert_eq!(bundle_sheet(&out[..2], 0), Err(Refusal::NoSheet));
     }
 }

@@ -22,11 +22,14 @@ pub enum Refusal {
     OrderOutOfRange = 14,
     SheetSign = 15,
     SheetCount = 16,
+    BundleTrailer = 20,
+    BundleSheets = 21,
+    NoSheet = 22,
 }
 
 impl Refusal {
     /// All refusals, in the order of their numbers.
-    pub const ALL: [Refusal; 16] = [
+    pub const ALL: [Refusal; 19] = [
         Refusal::FileLength,
         Refusal::ExponentTooLarge,
         Refusal::EntryTooLarge,
@@ -43,17 +46,20 @@ impl Refusal {
         Refusal::OrderOutOfRange,
         Refusal::SheetSign,
         Refusal::SheetCount,
+        Refusal::BundleTrailer,
+        Refusal::BundleSheets,
+        Refusal::NoSheet,
     ];
 
-    /// The number in documents 01 and 02, 1 to 16.
+    /// The number in documents 01 and 02, 1 to 16 or 20 to 22.
     pub fn number(self) -> u8 {
         self as u8
     }
 
-    /// The refusal with a number of 1 to 16.
+    /// The refusal with a number of 1 to 16 or 20 to 22.
     pub fn from_number(number: u8) -> Option<Refusal> {
-        let index = usize::from(number).checked_sub(1)?;
-        Refusal::ALL.get(index).copied()
+        let mut all = Refusal::ALL.into_iter();
+        all.find(|refusal| refusal.number() == number)
     }
 
     fn words(self) -> &'static str {
@@ -76,6 +82,13 @@ impl Refusal {
             Refusal::OrderOutOfRange => "t is above 28 or the spoilage above 1000 thousandths",
             Refusal::SheetSign => "the last byte of the sheet is above 1, or column 1 is negative",
             Refusal::SheetCount => "the first byte of the sheet is not its length plus 56",
+            Refusal::BundleTrailer => {
+                "the bundle has no trailer of a fitting length, or more than 512 sheets"
+            }
+            Refusal::BundleSheets => {
+                "the sheets do not lie end to end, or the offsets of the bundle do not follow them"
+            }
+            Refusal::NoSheet => "the bundle has no sheet of that number",
         }
     }
 }
@@ -94,11 +107,12 @@ mod tests {
 
     #[test]
     fn numbers_lead_to_their_refusals() {
-        for (number, refusal) in (1..).zip(Refusal::ALL) {
+        for (number, refusal) in (1..=16).chain(20..=22).zip(Refusal::ALL) {
             assert_eq!(refusal.number(), number);
             assert_eq!(Refusal::from_number(number), Some(refusal));
         }
-        assert_eq!(Refusal::from_number(0), None);
-        assert_eq!(Refusal::from_number(17), None);
+        for number in [0].into_iter().chain(17..=19).chain(23..=255) {
+            assert_eq!(Refusal::from_number(number), None);
+        }
     }
 }

@@ -1,12 +1,13 @@
-//! The CS cutter in plain Rust: operators, sheets and gate lists, and the states to order. Every
-//! definition, number and order of refusals is that of document 01, or of document 02 where that is
-//! later.
+//! The CS cutter in plain Rust: operators, sheets and gate lists, bundles of sheets, and the states to
+//! order. Every definition, number and order of refusals is that of document 01, or of document 02
+//! where that is later.
 //!
 //! A refusal is answered by its number (see [`refusal`]); it leaves every byte of the output as it
 //! was. On success the bytes past the output keep theirs too.
 
 #![forbid(unsafe_code)]
 
+pub mod bundle;
 pub mod gate;
 pub mod generator;
 pub mod matrix;
@@ -84,6 +85,22 @@ pub fn states_to_order(t: u64, p: u64) -> Result<u64, u8> {
         return Err(refusal::ORDER_OUT_OF_RANGE);
     }
     Ok(t + nearest(t * p))
+}
+
+/// Sheet `n` of a bundle, counted from 0, as that part of the bundle; of the sheet itself the first
+/// byte alone is looked at.
+pub fn bundle_sheet(bundle: &[u8], n: u64) -> Result<&[u8], u8> {
+    let sheets = bundle::read(bundle)?;
+    let sheet = usize::try_from(n).ok().and_then(|n| sheets.get(n));
+    sheet.copied().ok_or(refusal::NO_SHEET)
+}
+
+/// Writes the bundle of sheets that lie end to end and answers its number of bytes; of each sheet the
+/// first byte alone is looked at.
+pub fn sheets_to_bundle(sheets: &[u8], out: &mut [u8]) -> Result<usize, u8> {
+    let bundle = bundle::of_sheets(sheets)?;
+    lend(out, bundle.len())?.copy_from_slice(&bundle);
+    Ok(bundle.len())
 }
 
 /// So many thousandths as whole states: of the two around them the nearer one, and of two that are

@@ -1,5 +1,5 @@
 //! The numbers of the refusals, in the order of document 01, "What can be turned away"; of document
-//! 02, 16 follows 10 (P4), and 15 follows 12 (P2).
+//! 02, 16 follows 10 (P4), 15 follows 12 (P2), and 20 to 22 come last (P7).
 
 /// An operator file whose length is not 73.
 pub const FILE_LENGTH: u8 = 1;
@@ -33,3 +33,10 @@ pub const SHEET_SIGN: u8 = 15;
 pub const OTHER_SHEET: u8 = 13;
 /// An order with t above 28 or p above 1000.
 pub const ORDER_OUT_OF_RANGE: u8 = 14;
+/// A bundle with no trailer of a fitting length, or of more than 512 sheets.
+pub const BUNDLE_TRAILER: u8 = 20;
+/// A sheet's first byte below 64, offsets that do not follow the sheets, or sheets that do not end
+/// where the trailer starts; bytes to bundle that are not sheets end to end.
+pub const BUNDLE_SHEETS: u8 = 21;
+/// A sheet that the bundle does not have.
+pub const NO_SHEET: u8 = 22;

@@ -1,11 +1,13 @@
-//! Operators of a wanted count, their files and gate lists, drawn from a fixed seed. What they are
-//! is said by the plain implementation.
+//! Operators of a wanted count, their files, gate lists and sheets, and bundles, drawn from a fixed
+//! seed. What they are is said by the plain implementation.
 
 #![forbid(unsafe_code)]
 
+mod bundle;
 mod random;
 mod walk;
 
+pub use bundle::{part, Bundle};
 pub use random::Random;
 pub use walk::{Walk, LETTERS};
 
@@ -14,6 +16,9 @@ use plain::generator::GENERATORS;
 use plain::matrix::scale;
 use plain::operator::{Operator, MAX_EXPONENT, OPERATOR_BYTES};
 use plain::sheet::Sheet;
+
+/// How many sheets of each count a store has.
+const STORED_PER_COUNT: usize = 16;
 
 /// A Clifford.
 pub fn clifford(random: &mut Random) -> Operator {
@@ -99,6 +104,13 @@ pub fn sheet(random: &mut Random, count: u8) -> Vec<u8> {
     bytes
 }
 
+/// Sheets of every count, for those that draw many.
+pub fn store(random: &mut Random) -> Vec<Vec<u8>> {
+    let counts = (0..=MAX_EXPONENT).cycle();
+    let counts = counts.take(STORED_PER_COUNT * (usize::from(MAX_EXPONENT) + 1));
+    counts.map(|count| sheet(random, count)).collect()
+}
+
 #[cfg(test)]
 mod tests {
     use super::*;
@@ -114,6 +126,15 @@ mod tests {
             assert_eq!(Operator::read(&file(&inflated)), Ok(operator));
             let sheet = sheet(&mut random, count);
             assert_eq!(sheet.len(), usize::from(count) + MIN_SHEET);
+        }
+    }
+
+    #[test]
+    fn a_store_has_sheets_of_every_count() {
+        let store = store(&mut Random::new(4));
+        for len in (0..=MAX_EXPONENT).map(|count| usize::from(count) + MIN_SHEET) {
+            let sheets = store.iter().filter(|sheet| sheet.len() == len);
+            assert_eq!(sheets.count(), STORED_PER_COUNT);
         }
     }
 
