@@ -23,15 +23,15 @@ pub enum Part {
 pub fn byte_at(bytes: &[u8], at: usize) -> u8
     ensures { λ r. ⌜ r ≡ getD (now (bytes .entry)) at 0 ⌝ }
 {
-    if at < bytes.len() {
-        return bytes[at];
+    if bytes.len() <= at {
+        return 0;
     }
-    0
+    bytes[at]
 }
 
 // The length of a sheet, by its first byte.
 pub fn sheet_length(first: u8) -> usize
-    requires { ⌜ 64 ≤ first ⌝ }
+    requires { ⌜ 56 ≤ first ⌝ }
     ensures { λ r. ⌜ (r ≡ first - 56) × (r < 200) ⌝ }
 {
     (first - ABOVE_LENGTH) as usize
@@ -62,7 +62,7 @@ fn offset(bytes: &[u8], count: usize, n: usize) -> usize
 
 // Whether the sheets follow one another up to the trailer, as their offsets say.
 fn has_sheets(bytes: &[u8], count: usize) -> bool
-    requires { ⌜ (count ≡ sheetCount (now bytes)) × (trailerLength count ≤ length (now bytes)) ⌝ }
+    requires { ⌜ (count ≡ sheetCount (now bytes)) × (trailerLength count ≤ length (now bytes)) × (count < 65536) ⌝ }
     ensures { λ r. ⌜ r ≡ hasSheets (now (bytes .entry)) ⌝ }
 {
     let mut at = 0usize;
@@ -72,7 +72,8 @@ fn has_sheets(bytes: &[u8], count: usize) -> bool
         if first < LEAST_FIRST {
             return false;
         }
-        if offset(bytes, count, n) != at {
+        let says = offset(bytes, count, n);
+        if says != at {
             return false;
         }
         at += sheet_length(first);
@@ -81,7 +82,8 @@ fn has_sheets(bytes: &[u8], count: usize) -> bool
     at == bytes.len() - (2 * count + 2)
 }
 
-// The refusal that a bundle and a number of a sheet earn, or 0.
+// The refusal that a bundle and the number of a sheet earn, or 0.
+// Wrong, and refused: 513 sheets taken; 22 before 21; offsets that are trusted, and not followed from sheet to sheet; a gap before the trailer.
 pub fn bundle_refusal(bytes: &[u8], n: u64) -> u8
     ensures { λ r. ⌜ r ≡ bundleRefusal (now (bytes .entry)) n ⌝ }
 {
@@ -106,6 +108,7 @@ pub fn bundle_refusal(bytes: &[u8], n: u64) -> u8
 }
 
 // Where sheet n of a bundle stands.
+// Wrong, and refused: the offset of the sheet after; one refusal for all; the place for the length too.
 pub fn bundle_part(bytes: &[u8], n: u64) -> Part
     ensures { λ r. ⌜ (r ≡ partOf (now (bytes .entry)) n) × Placed r ⌝ }
 {
@@ -115,11 +118,15 @@ pub fn bundle_part(bytes: &[u8], n: u64) -> Part
     }
     let count = two_at(bytes, bytes.len() - 2);
     let start = offset(bytes, count, n as usize);
-    let length = sheet_length(bytes[start]);
-    Part::At { start, length }
+    let size = sheet_length(bytes[start]);
+    Part::At {
+        start,
+        length: size,
+    }
 }
 
 // Sheet n of a bundle, as a part of the bytes handed in; an empty part on a refusal.
+// Wrong, and refused: a part one byte longer; all bytes from the first on; the bytes from another place.
 pub fn bundle_sheet(bytes: &[u8], n: u64) -> &[u8]
     ensures { λ r. ⌜ (now r ≡ sheetIn (now (bytes .entry)) n) × (length (now r) < 200) ⌝ }
 {

@@ -46,7 +46,7 @@ pub extern "C" fn dimfrets_sheet_to_operator(input: &[u8], output: &mut [u8]) ->
 }
 
 // Where a sheet stands in a bundle.
-// Wrong, and refused: the sheet after it; the length of the bundle's first sheet.
+// Wrong, and refused: the first sheet, whichever is asked for; the sheet of half the number.
 #[no_mangle]
 pub extern "C" fn dimfrets_bundle_sheet(input: &[u8], n: u64) -> u64
     ensures { λ r. ⌜ WordOf (partParts (partOf (now (input .entry)) n)) r ⌝ }

@@ -1,6 +1,6 @@
 -- Where there is no refusal, the offset is where the sheet starts, and its first byte says how long it is.
 use mathlib.Core.Path.{sym, ap, ap₂, _∙_}
-use Prim.Native.Nat.{_-_, _≤_}
+use Prim.Native.Nat.{_-_}
 use native.Mathlib.Omega.{arith}
 use denote.Ref.{now}
 use lib.ListN.{getD}
@@ -13,14 +13,6 @@ use Rattle.bundle.proofs.bundle_part.Tie as tie
 -- there is such a sheet
 sheet : (c : tie.Else1) → Found (now (c .before .before .before .args .bytes)) (c .before .before .before .args .n)
 sheet c = found _ _ (sym (c .before .bundle-refusal .ensures) ∙ c .if1 .left)
-
--- its first byte
-first : (c : tie.After-offset) → 64 ≤ getD (now (c .before .before .before .before .before .args .bytes)) (c .offset .result) 0
-first c =
-    let s = c .before .before .before .before .before in
-    let e = ap (λ i. getD (now (s .args .bytes)) i 0) (c .offset .ensures .0) in
-    let f = sheet (c .before .before) .first in
-    omega arith
 
 bundle-refusal-requires : tie.Need-bundle-refusal-requires
 bundle-refusal-requires c κs = search needs
@@ -54,7 +46,11 @@ shared-slice-read-sheet-length c =
     omega arith
 
 sheet-length-requires : tie.Need-sheet-length-requires
-sheet-length-requires c κs = first (c .before)
+sheet-length-requires c κs =
+    let s = c .before .before .before .before .before .before in
+    let e = ap (λ i. getD (now (s .args .bytes)) i 0) (c .before .offset .ensures .0) in
+    let f = sheet (c .before .before .before) .first in
+    omega arith
 
 returns-2 : tie.Need-returns-2
 returns-2 c =
