@@ -1,6 +1,6 @@
 -- What `take_sheet` writes: the bytes of a sheet, or the one line `refused N`, and nothing where the argument is no number.
 use mathlib.Core.Bool.{cond}
-use mathlib.Core.List.{List, [], _++_}
+use mathlib.Core.List.{List, []}
 use Prim.Native.Nat.{ℕ, _-_}
 use lib.Dec.{eqb}
 use lib.ListN.{length, drop}

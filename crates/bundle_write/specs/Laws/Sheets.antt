@@ -1,7 +1,7 @@
 -- Which bytes are taken: those of up to 512 sheets, end to end, and no others. What is written of sheets gives back each of them.
-use mathlib.Core.Path.{_≡_, refl, sym, ap, ap₂, subst, _∙_}
+use mathlib.Core.Path.{_≡_, refl, sym, ap, subst, _∙_}
 use mathlib.Core.Logic.{_≢_}
-use mathlib.Core.Bool.{Bool, true, false, not, cond, _&&_}
+use mathlib.Core.Bool.{Bool, true, false, not}
 use mathlib.Core.List.{List, [], _∷_, _++_, flatten}
 use Prim.Native.Nat.{ℕ, zero, suc, _+_, _-_, _≤_, _<_}
 use native.Mathlib.Nat.{zero-add}
@@ -18,7 +18,7 @@ use Rattle.sheet_bytes.specs.Sheet.{Counted, sheetRefusal}
 use Rattle.sheet_bytes.specs.Laws.Count.{Each, first-end, read-counted}
 use Rattle.bundle.specs.Bundle.{mostSheets, lengthAt, startOf, offset, sheetIn, bundleOf}
 use Rattle.bundle.specs.Laws.Read.{found, part-length, part-not-empty, part-counted}
-use Rattle.bundle.specs.Laws.Made.{Opens, EndToEnd, end-to-end, start-behind, made-first, made-start, made-sheet}
+use Rattle.bundle.specs.Laws.Made.{Opens, end-to-end, start-behind, made-first, made-start, made-sheet}
 use Rattle.bundle_write.specs.Writing.{isWhole, storedCount, sheetsRefusal, sheetsBundle}
 use Rattle.bundle_write.specs.Laws.Stored.{WholeAt, whole-sound, stored-whole, stored-few, stored-end-to-end, stored-reads, stored-parts}
 use Rattle.bundle_write.specs.Laws.Promise.{many-refused, sheets-accepted}

@@ -1,14 +1,13 @@
 -- Whole sheets that stand end to end from the front on: where they start, and what is made of them.
-use mathlib.Core.Path.{_≡_, refl, sym, ap, subst, _∙_}
-use mathlib.Core.Bool.{Bool, true, false, not, cond, _&&_}
-use mathlib.Core.List.{List, [], flatten}
+use mathlib.Core.Path.{_≡_, refl}
+use mathlib.Core.Bool.{Bool, true, false, not, cond}
+use mathlib.Core.List.{List, flatten}
 use Prim.Native.Nat.{ℕ, zero, suc, _+_, _*_, _≤_, _<_}
-use native.Mathlib.Nat.{zero-add}
 use native.Mathlib.Omega.{arith}
 use lib.Dec.{eqb, leb, ltb}
-use lib.ListN.{length, getD}
+use lib.ListN.{length}
 use borrow.Author.Tests.{eqb-true, leb-true, ltb-false, not-false}
-use Rattle.matrix.specs.Range.{firstFrom, tabulate}
+use Rattle.matrix.specs.Range.{tabulate}
 use Rattle.matrix.specs.Laws.Test.{and-left, and-right}
 use Rattle.matrix.specs.Laws.Range.{first-passed}
 use Rattle.sheet_bytes.specs.Bytes.{shortest, longest}

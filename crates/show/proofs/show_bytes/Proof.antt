@@ -4,8 +4,6 @@ use lib.ListN.{length}
 use borrow.Author.Needs.{needs}
 use Rattle.show.proofs.show_bytes.Statement.{statement}
 use Rattle.show.proofs.show_bytes.Tie as tie
-use Rattle.show.proofs.show.Reads as show-reads
-use Rattle.show.proofs.show_number.Reads as show-number-reads
 
 abbrev Inv-loop : tie.InvT-loop
 Inv-loop word bytes n₀ t4 n = n ≤ length bytes

@@ -1,7 +1,6 @@
 -- The invariant: both buffers keep their lengths.
-use mathlib.Core.Path.{_≡_, refl, _∙_}
+use mathlib.Core.Path.{_≡_}
 use Prim.Native.Nat.{_-_, _^_, _≤_}
-use native.Mathlib.Omega.{arith}
 use lib.ListN.{length}
 use borrow.Author.Needs.{needs}
 use Rattle.take_sheet.proofs.read_on.Statement.{statement}
