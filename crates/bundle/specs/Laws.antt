@@ -1,4 +1,4 @@
 -- Theorems, a file for each subject; a file cites only those above it.
 pub mod Read
-pub mod Walk
 pub mod Made
+pub mod Again

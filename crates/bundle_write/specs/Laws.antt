@@ -1,6 +1,5 @@
 -- Theorems, a file for each subject; a file cites only those above it.
 pub mod Stored
-pub mod Walk
 pub mod Promise
 pub mod Sheets
 pub mod Long

@@ -5,7 +5,7 @@ use mathlib.Core.List.{List, [], _++_, flatten, append-assoc, append-nil}
 use mathlib.Core.Logic.{_≢_}
 use Prim.Native.Nat.{ℕ, zero, suc, _+_, _*_, _-_, _≤_, _<_}
 use native.Mathlib.Nat.{zero-add}
-use native.Mathlib.Decide.{ℕ-discrete}
+use native.Mathlib.Decide.{ℕ-discrete, decLt}
 use native.Mathlib.Omega.{arith}
 use lib.Dec.{leb, ltb}
 use lib.ListN.{length, getD, take, drop, length-drop}
@@ -21,7 +21,7 @@ use Rattle.bundle.specs.Bundle.{mostSheets, sheetCount, trailerLength, t
 
 -- ---- what the tests say
 
--- a bundle: what earns neither 20 nor 21
+-- a bundle, which earns neither 20 nor 21
 pub record Bundled (b : List ℕ) : Type 0 where
   pub long : 2 ≤ length b
   pub fits : trailerLength (sheetCount b) ≤ length b
@@ -30,7 +30,7 @@ pub record Bundled (b : List ℕ) : Type 0 where
   pub follows : (n : ℕ) → n < sheetCount b → offset b n ≡ startOf b n
   pub ended : startOf b (sheetCount b) ≡ trailerStart b
 
-pub bundled-sound : (b : List ℕ) → hasTrailer b ≡ true → hasSheets b ≡ true → Bundled b
+bundled-sound : (b : List ℕ) → hasTrailer b ≡ true → hasSheets b ≡ true → Bundled b
 bundled-sound b t s =
     let t₁ = and-right (leb 2 (length b)) _ t in
     let f : (n : ℕ) → n < sheetCount b → isFollowed b n ≡ true = every-sound (sheetCount b) (isFollowed b) (and-left (every (sheetCount b) (isFollowed b)) (isEnded b) s) in
@@ -42,6 +42,15 @@ bundled-sound b t s =
       follows = λ n h. eqb-true _ _ (and-right (leb 64 (getD b (startOf b n) 0)) _ (f n h));
       ended = eqb-true _ _ (and-right (every (sheetCount b) (isFollowed b)) (isEnded b) s);
     }
+
+pub bundled : (b : List ℕ) (n : ℕ) → bundleRefusal b n ≢ 20 → bundleRefusal b n ≢ 21 → Bundled b
+unfolding bundleRefusal
+bundled b n d e = go (hasTrailer b) refl (hasSheets b) refl
+  where
+    go : (t : Bool) → hasTrailer b ≡ t → (s : Bool) → hasSheets b ≡ s → Bundled b
+    go true p true q = bundled-sound b p q
+    go true p false q = absurd (e (rw (p, q)))
+    go false p s q = absurd (d (rw p))
 
 both : {s t : Bool} → s ≡ true → t ≡ true → (s && t) ≡ true
 both p q = rw (p, q)
@@ -98,14 +107,9 @@ found-in b n h l =
     record { bundled = h; inside = l; at = e; first = omega arith; end = omega arith }
 
 pub found : (b : List ℕ) (n : ℕ) → bundleRefusal b n ≡ 0 → Found b n
-unfolding bundleRefusal
-found b n z = go (hasTrailer b) (hasSheets b) (ltb n (sheetCount b)) refl refl refl z
-  where
-    go : (t s u : Bool) → hasTrailer b ≡ t → hasSheets b ≡ s → ltb n (sheetCount b) ≡ u → _≡_ {A = ℕ} (cond (not t) 20 (cond (not s) 21 (cond (not u) 22 0))) 0 → Found b n
-    go true true true p q r z = found-in b n (bundled-sound b p q) (ltb-true _ _ r)
-    go true true false p q r z = absurd (omega arith)
-    go true false u p q r z = absurd (omega arith)
-    go false s u p q r z = absurd (omega arith)
+found b n z =
+    let h = bundled b n (λ e. omega arith) (λ e. omega arith) in
+    elim (decLt n (sheetCount b)) [ yes l ↦ found-in b n h l | no l ↦ let r = no-sheet-refusal b h n (omega arith) in absurd (omega arith) ]
 
 -- ---- the part
 
