@@ -73,6 +73,17 @@ module _ (b : List ℕ) (h : Bundled b) where
   unfolding bundleRefusal
   no-sheet-refusal n l = rw (has-trailer, has-sheets, le-ltb n (sheetCount b) l)
 
+-- every number that no bundle has a sheet for earns the same
+pub far-alike : (b : List ℕ) (m n : ℕ) → mostSheets ≤ m → mostSheets ≤ n → bundleRefusal b m ≡ bundleRefusal b n
+unfolding bundleRefusal
+far-alike b m n k l = go (hasTrailer b) refl
+  where
+    go : (t : Bool) → hasTrailer b ≡ t → bundleRefusal b m ≡ bundleRefusal b n
+    go true p =
+        let f = leb-true (sheetCount b) mostSheets (and-right (leb (trailerLength (sheetCount b)) (length b)) _ (and-right (leb 2 (length b)) _ p)) in
+        rw (le-ltb m (sheetCount b) (omega arith), le-ltb n (sheetCount b) (omega arith))
+    go false p = rw p
+
 -- ---- places
 
 start-add : (b : List ℕ) (n k : ℕ) → startOf b n ≤ startOf b (n + k)
