@@ -13,7 +13,7 @@ pub const LEAST_FIRST: u8 = 64;
 
 const ABOVE_LENGTH: u8 = 56;
 
-// Where a sheet stands in a bundle: its first byte and its length, or the refusal's number.
+// Where a sheet stands in a bundle: the place of its first byte and its length, or the refusal's number.
 pub enum Part {
     At { start: usize, length: usize },
     Refused(u8),

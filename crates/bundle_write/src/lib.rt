@@ -9,8 +9,8 @@ ghost use Rattle.file.specs.File.{Appended};
 ghost use Rattle.bundle.specs.Bundle.{mostSheets, trailerLength, lengthAt, startOf, twoBytes, offsets, bundleOf};
 ghost use Rattle.bundle_write.specs.Writing.{isWhole, storedCount, BundlePromise};
 
-// The most bytes of a bundle that is written: 512 sheets of 36 bytes, and their trailer.
-pub const LONGEST_BUNDLE: usize = 19458;
+// The most bytes of a bundle that is written: for each sheet its own and two of its offset, and two of the number of sheets.
+pub const LONGEST_BUNDLE: usize = bundle::MOST_SHEETS * (sheet_bytes::LONGEST + 2) + 2;
 
 // How many whole sheets stand end to end from the front on, and where they end.
 struct Stored {

@@ -7,8 +7,8 @@ ghost use Rattle.io.specs.Counts.{Counts};
 ghost use Rattle.file.specs.File.{Appended};
 ghost use Rattle.make_bundle.specs.Output.{outputOf};
 
-// More bytes than any 513 sheets say: what follows them decides nothing (`long-sheets`).
-const LONGER: usize = 102088;
+// One byte more than 513 first bytes can say, 199 each: what follows decides nothing (`long-sheets`).
+const LONGER: usize = 199 * 513 + 1;
 
 // The bytes for sheets, at the front of `out`.
 fn answer(sheets: &[u8], out: &mut [u8; bundle_write::LONGEST_BUNDLE]) -> usize

@@ -10,8 +10,8 @@ ghost use Rattle.file.specs.File.{Appended};
 ghost use Rattle.text_read.specs.Text.{numberOf};
 ghost use Rattle.take_sheet.specs.Output.{sheetOutput, outputOf, lastTwo};
 
-// One byte more than the longest bundle has.
-const LONGER: usize = 66761;
+// One byte more than the longest bundle has: the largest offset, a part of 199 bytes there, and the trailer.
+const LONGER: usize = 65535 + 199 + (2 * bundle::MOST_SHEETS + 2) + 1;
 
 // More turns than an input has parts of 65,536 bytes.
 const MOST_TURNS: u64 = 1 << 48;
@@ -97,15 +97,23 @@ fn buffer() -> [u8; LONGER]
     [0; LONGER]
 }
 
+fn usage() {
+    io::write_all(libc::STDERR_FILENO, b"usage: take_sheet N\n");
+}
+
 fn main() {
+    if os::arg_count() != 2 {
+        usage();
+        return;
+    }
     let mut number = io::buffer();
     let m = os::arg(1, &mut number);
     let mut bundle = buffer();
     let length = read_input(&mut bundle);
     let mut output = [0u8; 256];
     let end = answer(&bundle[..length], &number[..m], &mut output);
-    if os::arg_count() != 2 || end == 0 {
-        io::write_all(libc::STDERR_FILENO, b"usage: take_sheet N\n");
+    if end == 0 {
+        usage();
         return;
     }
     io::write_all(libc::STDOUT_FILENO, &output[..end]);
