@@ -1,10 +1,9 @@
 -- The invariant: the walk stands where sheet n starts, and the sheets before it follow, so that the rest decides.
-use mathlib.Core.Path.{_≡_, refl, sym, ap, _∙_}
+use mathlib.Core.Path.{_≡_, sym, ap, _∙_}
 use mathlib.Core.Logic.{_≢_}
 use mathlib.Core.Bool.{true, false, _&&_}
 use mathlib.Core.List.{List}
 use Prim.Native.Nat.{ℕ, _+_, _*_, _-_, _≤_, _<_}
-use native.Mathlib.Numerals.{add-one}
 use native.Mathlib.Omega.{arith}
 use lib.Dec.{eqb}
 use lib.ListN.{length, getD}
@@ -13,19 +12,12 @@ use borrow.Author.Needs.{needs}
 use borrow.Author.Tests.{lt-leb, le-leb, eq-eqb, ne-eqb}
 use Rattle.matrix.specs.Range.{everyFrom, every}
 use Rattle.matrix.specs.Laws.Range.{every-next, every-stop}
-use Rattle.bundle.specs.Bundle.{sheetCount, trailerStart, offset, lengthAt, startOf, isFollowed, isEnded, hasSheets}
+use Rattle.bundle.specs.Laws.Read.{start-first, start-next}
+use Rattle.bundle.specs.Bundle.{sheetCount, trailerStart, offset, startOf, isFollowed, isEnded, hasSheets}
 use Rattle.bundle.proofs.has_sheets.Statement.{statement}
 use Rattle.bundle.proofs.has_sheets.Tie as tie
 
 module _ (b : List ℕ) where
-  first-start : 0 ≡ startOf b 0
-  unfolding startOf
-  first-start = refl
-
-  next-start : (n at : ℕ) → at ≡ startOf b n → at + lengthAt b at ≡ startOf b (n + 1)
-  unfolding startOf
-  next-start n at e = ap (λ k. k + lengthAt b k) e ∙ sym (ap (startOf b) (add-one n))
-
   -- the two tests of a sheet
   module _ (n at : ℕ) (e : at ≡ startOf b n) where
     low : getD b at 0 < 64 → isFollowed b n ≡ false
@@ -60,7 +52,7 @@ abbrev μ-loop : tie.MeasureT-loop
 loop-holds : tie.Need-loop-holds Inv-loop μ-loop
 loop-holds c =
     let a = c .before .args in
-    (search needs, search needs, first-start _, let e : a .count ≡ a .count - 0 = omega arith in ap (everyFrom (isFollowed (now (a .bytes))) 0) e)
+    (search needs, search needs, start-first _, let e : a .count ≡ a .count - 0 = omega arith in ap (everyFrom (isFollowed (now (a .bytes))) 0) e)
 
 byte-at-requires : tie.Need-byte-at-requires Inv-loop μ-loop
 byte-at-requires c κs = search needs
@@ -101,7 +93,7 @@ loop-again c =
     let o = c .before .before .offset .ensures .0 in (
       search needs,
       search needs,
-      ap (λ x. l .loop .at + x) (c .sheet-length .ensures .0 ∙ ap (λ x. x - 56) e) ∙ next-start b (l .loop .n) (l .loop .at) (l .loop .inv .2),
+      ap (λ x. l .loop .at + x) (c .sheet-length .ensures .0 ∙ ap (λ x. x - 56) e) ∙ start-next b (l .loop .n) (l .loop .at) (l .loop .inv .2),
       l .loop .inv .3 ∙ every-next _ _ (l .loop .n) (omega arith) (follows b (l .loop .n) (l .loop .at) (l .loop .inv .2) (omega arith) (sym o ∙ c .before .if2 .left)),
     )
 

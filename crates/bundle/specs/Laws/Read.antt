@@ -5,6 +5,7 @@ use mathlib.Core.List.{List, [], _++_, flatten, append-assoc, append-nil}
 use mathlib.Core.Logic.{_≢_}
 use Prim.Native.Nat.{ℕ, zero, suc, _+_, _*_, _-_, _≤_, _<_}
 use native.Mathlib.Nat.{zero-add}
+use native.Mathlib.Numerals.{add-one}
 use native.Mathlib.Decide.{ℕ-discrete, decLt}
 use native.Mathlib.Omega.{arith}
 use lib.Dec.{leb, ltb}
@@ -85,6 +86,16 @@ far-alike b m n k l = go (hasTrailer b) refl
     go false p = rw p
 
 -- ---- places
+
+-- the first sheet, and the one behind sheet n
+module _ (b : List ℕ) where
+  pub start-first : 0 ≡ startOf b 0
+  unfolding startOf
+  start-first = refl
+
+  pub start-next : (n at : ℕ) → at ≡ startOf b n → at + lengthAt b at ≡ startOf b (n + 1)
+  unfolding startOf
+  start-next n at e = ap (λ k. k + lengthAt b k) e ∙ sym (ap (startOf b) (add-one n))
 
 start-add : (b : List ℕ) (n k : ℕ) → startOf b n ≤ startOf b (n + k)
 unfolding startOf

@@ -4,7 +4,6 @@ use mathlib.Core.Logic.{_≢_}
 use mathlib.Core.Bool.{Bool, true, false, not, cond}
 use mathlib.Core.List.{List}
 use Prim.Native.Nat.{ℕ, suc, _+_, _-_, _≤_}
-use native.Mathlib.Numerals.{add-one}
 use native.Mathlib.Omega.{arith}
 use denote.Ref.{now}
 use lib.ListN.{length}
@@ -12,6 +11,7 @@ use borrow.Author.Needs.{needs}
 use Rattle.matrix.specs.Range.{firstFrom}
 use Rattle.matrix.specs.Laws.Range.{first-here, first-next}
 use Rattle.bundle.specs.Bundle.{mostSheets, lengthAt, startOf}
+use Rattle.bundle.specs.Laws.Read.{start-first, start-next}
 use Rattle.bundle_write.specs.Writing.{isWhole, storedCount}
 use Rattle.bundle_write.specs.Laws.Stored.{whole-sound}
 use Rattle.bundle_write.proofs.count_sheets.Statement.{statement}
@@ -37,16 +37,11 @@ module _ (s : List ℕ) (at r : ℕ) (e : r ≡ cond (isWhole s at) (at + length
       go false d = absurd (d refl)
 
   next-start : r ≢ 0 → (n : ℕ) → at ≡ startOf s n → (r ≡ startOf s (n + 1)) × (r ≤ length s)
-  unfolding startOf
   next-start d n a =
       let p = some d in
       let f : r ≡ at + lengthAt s at = e ∙ rw p in
       let i = whole-sound s at p .inside in
-      (f ∙ ap (λ k. k + lengthAt s k) a ∙ sym (ap (startOf s) (add-one n)), omega arith)
-
-first-start : (s : List ℕ) → 0 ≡ startOf s 0
-unfolding startOf
-first-start s = refl
+      (f ∙ start-next s n at a, omega arith)
 
 all : (s : List ℕ) (n : ℕ) → n ≡ suc mostSheets → storedCount s ≡ firstFrom (isNone s) n (suc mostSheets - n) → n ≡ storedCount s
 unfolding firstFrom
@@ -59,7 +54,7 @@ abbrev μ-loop : tie.MeasureT-loop
 μ-loop sheets count₀ end₀ count end = suc mostSheets - count
 
 loop-holds : tie.Need-loop-holds Inv-loop μ-loop
-loop-holds c = (search needs, first-start _, search needs, refl)
+loop-holds c = (search needs, start-first _, search needs, refl)
 
 sheet-end-requires : tie.Need-sheet-end-requires Inv-loop μ-loop
 sheet-end-requires c κs = c .before .loop .inv .2

@@ -3,7 +3,6 @@ use mathlib.Core.Path.{_≡_, refl, sym, ap, _∙_}
 use mathlib.Core.Bool.{cond}
 use mathlib.Core.List.{List, _++_, flatten}
 use Prim.Native.Nat.{ℕ, _+_, _-_, _≤_, _<_}
-use native.Mathlib.Numerals.{add-one}
 use native.Mathlib.Omega.{arith}
 use denote.Ref.{now}
 use lib.ListN.{length}
@@ -12,15 +11,12 @@ use Rattle.file.specs.File.{Appended}
 use Rattle.file.specs.Laws.Written.{appended-as, appended-none, appended-length, appended-append}
 use Rattle.matrix.specs.Range.{tabulate}
 use Rattle.bundle.specs.Bundle.{lengthAt, startOf, twoBytes, offsets}
+use Rattle.bundle.specs.Laws.Read.{start-first, start-next}
 use Rattle.bundle.specs.Laws.Made.{length-offsets, offsets-next}
 use Rattle.bundle_write.specs.Writing.{isWhole, storedCount}
 use Rattle.bundle_write.specs.Laws.Stored.{stored-whole, stored-start}
 use Rattle.bundle_write.proofs.write_offsets.Statement.{statement}
 use Rattle.bundle_write.proofs.write_offsets.Tie as tie
-
-first : (s : List ℕ) → 0 ≡ startOf s 0
-unfolding startOf
-first s = refl
 
 none : (s : List ℕ) (at : ℕ) (old : List ℕ) → Appended (offsets s 0) at old old at
 unfolding tabulate flatten
@@ -34,16 +30,12 @@ abbrev μ-loop : tie.MeasureT-loop
 
 -- a stored sheet ends where the next one starts
 ends : (s : List ℕ) (at n : ℕ) → at ≡ startOf s n → n < storedCount s → cond (isWhole s at) (at + lengthAt s at) 0 ≡ startOf s (n + 1)
-unfolding startOf
-ends s at n e l =
-    ap (λ k. cond (isWhole s k) (k + lengthAt s k) 0) e
-    ∙ ap (λ t. cond t (startOf s n + lengthAt s (startOf s n)) 0) (stored-whole s n l)
-    ∙ sym (ap (startOf s) (add-one n))
+ends s at n e l = ap (λ t. cond t (at + lengthAt s at) 0) (ap (isWhole s) e ∙ stored-whole s n l) ∙ start-next s n at e
 
 loop-holds : tie.Need-loop-holds Inv-loop μ-loop
 loop-holds c =
     let a = c .before .before .args in
-    (search needs, refl, first (now (a .sheets)), none (now (a .sheets)) (a .at) (now (a .out)))
+    (search needs, refl, start-first (now (a .sheets)), none (now (a .sheets)) (a .at) (now (a .out)))
 
 write-two-requires : tie.Need-write-two-requires Inv-loop μ-loop
 write-two-requires c κs =
