@@ -1,12 +1,12 @@
 -- A bundle that is read is the bundle of its parts: there is no other way to write it.
 use mathlib.Core.Path.{_≡_, refl, sym, ap, ap₂, _∙_}
-use mathlib.Core.List.{List, [], _∷_, _++_, flatten}
+use mathlib.Core.List.{List, _∷_, _++_, flatten}
 use Prim.Native.Nat.{ℕ, zero, suc, _+_, _*_, _-_, _%_, _/_, _≤_, _<_}
 use native.Mathlib.Omega.{arith}
 use lib.ListN.{length, getD, take, drop, take-append-drop}
 use lib.Seq.{getD-take, drop-cons, drop-length}
 use Rattle.matrix.specs.Range.{tabulate}
-use Rattle.bundle.specs.Bundle.{twoAt, sheetCount, trailerStart, offset, startOf, sheetIn, twoBytes, offsets, bundleOf}
+use Rattle.bundle.specs.Bundle.{twoAt, sheetCount, trailerStart, startOf, sheetIn, twoBytes, offsets, bundleOf}
 use Rattle.bundle.specs.Laws.Read.{Bundled, start-le, parts-end-to-end}
 
 module _ (b : List ℕ) (byte : (i : ℕ) → getD b i 0 < 256) (h : Bundled b) where
