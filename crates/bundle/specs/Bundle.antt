@@ -84,6 +84,10 @@ Placed (Refused r) = Unit {0}
 unfoldable pub sheetIn : List ℕ → ℕ → List ℕ
 sheetIn b n = cond (eqb (bundleRefusal b n) 0) (take (lengthAt b (offset b n)) (drop (offset b n) b)) []
 
+-- "that part": where it stands in the bytes; an empty part stands at their front
+unfoldable pub placeIn : List ℕ → ℕ → ℕ
+placeIn b n = cond (eqb (bundleRefusal b n) 0) (offset b n) 0
+
 -- ---- the bundle of given sheets
 
 -- 16 bits, "low byte first"

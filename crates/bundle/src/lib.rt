@@ -3,7 +3,8 @@
 ghost use mathlib.Core.Path.{_≡_};
 ghost use Prim.Native.Nat.{_+_, _*_, _-_, _<_, _≤_};
 ghost use lib.ListN.{length, getD};
-ghost use Rattle.bundle.specs.Bundle.{bundleRefusal, hasSheets, offset as Bundle·offset, partOf, Placed, sheetCount, sheetIn, trailerLength, twoAt};
+ghost use denote.Ref.{ptr};
+ghost use Rattle.bundle.specs.Bundle.{bundleRefusal, hasSheets, offset as Bundle·offset, partOf, placeIn, Placed, sheetCount, sheetIn, trailerLength, twoAt};
 
 // The most sheets of a bundle.
 pub const MOST_SHEETS: usize = 512;
@@ -125,10 +126,10 @@ pub fn bundle_part(bytes: &[u8], n: u64) -> Part
     }
 }
 
-// Sheet n of a bundle, as a part of the bytes handed in; an empty part on a refusal.
+// Sheet n of a bundle, as a part of the bytes handed in, which points to its place in them; an empty part, at their front, on a refusal.
 // Wrong, and refused: a part one byte longer; all bytes from the first on; the bytes from another place.
 pub fn bundle_sheet(bytes: &[u8], n: u64) -> &[u8]
-    ensures { λ r. ⌜ (now r ≡ sheetIn (now (bytes .entry)) n) × (length (now r) < 200) ⌝ }
+    ensures { λ r. ⌜ (now r ≡ sheetIn (now (bytes .entry)) n) × (length (now r) < 200) × (ptr r ≡ (ptr (bytes .entry) .0, ptr (bytes .entry) .1 + placeIn (now (bytes .entry)) n)) ⌝ }
 {
     let part = bundle_part(bytes, n);
     match part {

@@ -61,7 +61,7 @@ fn push_all(more: &[u8], bytes: &mut [u8])
     }
 }
 
-// Reads on to the end of the input. What is longer than any bundle is refused by its last two bytes alone (`long-refused`).
+// Reads on to the end of the input. What is longer than any bundle is refused by its last two bytes alone (`last-refused`).
 fn read_on(bytes: &mut [u8])
     requires { ⌜ 2 ≤ length (now bytes) ⌝ }
 {

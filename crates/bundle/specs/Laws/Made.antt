@@ -30,17 +30,17 @@ flatten-next g a (suc k) =
     append-assoc (g a) (flatten (tabulate g (suc a) k)) (g (a + suc k))
     ∙ ap (λ x. g a ++ x) (ap (λ i. flatten (tabulate g (suc a) k) ++ g i) (let i : a + suc k ≡ suc a + k = omega arith in i) ∙ flatten-next g (suc a) k)
 
+two-later : (x y : ℕ) (l : List ℕ) (k : ℕ) → twoAt (x ∷ y ∷ l) (2 * suc k) ≡ twoAt l (2 * k)
+two-later x y l k =
+    let i : 2 * suc k ≡ suc (suc (2 * k)) = omega arith in
+    let j : 2 * suc k + 1 ≡ suc (suc (2 * k + 1)) = omega arith in
+    ap₂ (λ i j. getD (x ∷ y ∷ l) i 0 + 256 * getD (x ∷ y ∷ l) j 0) i j
+
 module _ (f : ℕ → ℕ) where
   length-two : (a k : ℕ) → length (flatten (tabulate (λ i. twoBytes (f i)) a k)) ≡ 2 * k
   unfolding tabulate flatten
   length-two a zero = refl
   length-two a (suc k) = let e = length-two (suc a) k in omega arith
-
-  two-later : (x y : ℕ) (l : List ℕ) (k : ℕ) → twoAt (x ∷ y ∷ l) (2 * suc k) ≡ twoAt l (2 * k)
-  two-later x y l k =
-      let i : 2 * suc k ≡ suc (suc (2 * k)) = omega arith in
-      let j : 2 * suc k + 1 ≡ suc (suc (2 * k + 1)) = omega arith in
-      ap₂ (λ i j. getD (x ∷ y ∷ l) i 0 + 256 * getD (x ∷ y ∷ l) j 0) i j
 
   -- number n of those that follow one another, in 16 bits each
   two-at : (a k : ℕ) (rest : List ℕ) (n : ℕ) → n < k → twoAt (flatten (tabulate (λ i. twoBytes (f i)) a k) ++ rest) (2 * n) ≡ f (a + n)

@@ -18,7 +18,7 @@ use Rattle.matrix.specs.Laws.Range.{every-sound, every-complete}
 use Rattle.sheet_bytes.specs.Bytes.{shortest}
 use Rattle.sheet_bytes.specs.Sheet.{Counted}
 use Rattle.bundle.specs.declared.Part.the-variants.{At, Refused}
-use Rattle.bundle.specs.Bundle.{mostSheets, sheetCount, trailerLength, trailerStart, offset, lengthAt, startOf, isFollowed, isEnded, hasTrailer, hasSheets, bundleRefusal, partOf, sheetIn}
+use Rattle.bundle.specs.Bundle.{mostSheets, sheetCount, trailerLength, trailerStart, offset, lengthAt, startOf, isFollowed, isEnded, hasTrailer, hasSheets, bundleRefusal, partOf, sheetIn, placeIn}
 
 -- ---- what the tests say
 
@@ -145,6 +145,10 @@ module _ (b : List ℕ) (n : ℕ) where
     unfolding partOf
     part-found = rw (eq-eqb (bundleRefusal b n) 0 z)
 
+    pub place-is : placeIn b n ≡ offset b n
+    unfolding placeIn
+    place-is = rw (eq-eqb (bundleRefusal b n) 0 z)
+
     pub part-length : length (sheetIn b n) ≡ lengthAt b (offset b n)
     part-length =
         let f = found b n z in
@@ -172,26 +176,30 @@ module _ (b : List ℕ) (n : ℕ) where
     unfolding sheetIn
     part-refused = rw (ne-eqb (bundleRefusal b n) 0 z)
 
+    pub place-none : placeIn b n ≡ 0
+    unfolding placeIn
+    place-none = rw (ne-eqb (bundleRefusal b n) 0 z)
+
     pub part-missing : partOf b n ≡ Refused (bundleRefusal b n)
     unfolding partOf
     part-missing = rw (ne-eqb (bundleRefusal b n) 0 z)
 
   -- so a part that is answered by its place lies in the bytes, and is what is handed back
-  pub part-at : (start size : ℕ) → partOf b n ≡ At start size → (start + size ≤ length b) × (take size (drop start b) ≡ sheetIn b n)
+  pub part-at : (start size : ℕ) → partOf b n ≡ At start size → (start + size ≤ length b) × (take size (drop start b) ≡ sheetIn b n) × (start ≡ placeIn b n)
   part-at start size e = elim (ℕ-discrete (bundleRefusal b n) 0) [
     | yes z ↦
         let f = part-found z in
         let p : start ≡ offset b n = cc in
         let q : size ≡ lengthAt b (offset b n) = cc in
         let l = found b n z .end in
-        (omega arith, ap₂ (λ k i. take k (drop i b)) q p ∙ sym (part-is z))
+        (omega arith, ap₂ (λ k i. take k (drop i b)) q p ∙ sym (part-is z), p ∙ sym (place-is z))
     | no z ↦ let f = part-missing z in let x : _≡_ {A = ℕ} 0 1 = cc in absurd (omega arith)
   ]
 
-  pub part-none : (r : ℕ) → partOf b n ≡ Refused r → sheetIn b n ≡ []
+  pub part-none : (r : ℕ) → partOf b n ≡ Refused r → (sheetIn b n ≡ []) × (placeIn b n ≡ 0)
   part-none r e = elim (ℕ-discrete (bundleRefusal b n) 0) [
     | yes z ↦ let f = part-found z in let x : _≡_ {A = ℕ} 0 1 = cc in absurd (omega arith)
-    | no z ↦ part-refused z
+    | no z ↦ (part-refused z, place-none z)
   ]
 
 -- ---- end to end

@@ -10,9 +10,9 @@ use native.Mathlib.Omega.{arith}
 use lib.Dec.{ltb}
 use lib.ListN.{length, getD, length-append, List·getD-eq-default}
 use lib.Seq.{getD-append-add}
-use borrow.Author.Tests.{ltb-false, lt-leb, le-leb}
-use Rattle.matrix.specs.Range.{firstFrom, tabulate}
-use Rattle.matrix.specs.Laws.Range.{true-false, first-in, first-passed, length-tabulate, getD-tabulate}
+use borrow.Author.Tests.{ltb-false, lt-leb}
+use Rattle.matrix.specs.Range.{tabulate}
+use Rattle.matrix.specs.Laws.Range.{first-stops, first-goes-on, length-tabulate, getD-tabulate}
 use Rattle.sheet_bytes.specs.Bytes.{shortest, longest}
 use Rattle.sheet_bytes.specs.Sheet.{Counted, sheetRefusal}
 use Rattle.sheet_bytes.specs.Laws.Count.{Each, first-end, read-counted}
@@ -20,7 +20,7 @@ use Rattle.bundle.specs.Bundle.{mostSheets, lengthAt, startOf, offset, sheetIn,
 use Rattle.bundle.specs.Laws.Read.{found, part-length, part-not-empty, part-counted}
 use Rattle.bundle.specs.Laws.Made.{Opens, end-to-end, start-behind, made-first, made-start, made-sheet}
 use Rattle.bundle_write.specs.Writing.{isWhole, storedCount, sheetsRefusal, sheetsBundle}
-use Rattle.bundle_write.specs.Laws.Stored.{WholeAt, whole-sound, stored-whole, stored-few, stored-end-to-end, stored-reads, stored-parts}
+use Rattle.bundle_write.specs.Laws.Stored.{WholeAt, whole-sound, whole-complete, stored-whole, stored-few, stored-end-to-end, stored-reads, stored-parts}
 use Rattle.bundle_write.specs.Laws.Promise.{many-refused, sheets-accepted}
 
 -- a sheet as far as its frame goes: it says how long it is, and that is a length that a sheet may have
@@ -38,10 +38,6 @@ read-framed s z = go (ltb (length s) shortest) refl (ltb longest (length s)) ref
     go true p b q = let e : 10 ≡ sheetRefusal s = rw p in absurd (omega arith)
     go false p true q = let e : 10 ≡ sheetRefusal s = rw (p, q) in absurd (omega arith)
     go false p false q = record { counted = read-counted s z; least = ltb-false _ _ p; most = ltb-false _ _ q }
-
-whole-complete : (s : List ℕ) (at : ℕ) → WholeAt s at → isWhole s at ≡ true
-whole-complete s at w =
-    rw (le-leb shortest (lengthAt s at) (w .least), le-leb (lengthAt s at) longest (w .most), le-leb (at + lengthAt s at) (length s) (w .inside))
 
 framed-at : (ss : List (List ℕ)) → Each Framed ss → (n : ℕ) → n < length ss → WholeAt (flatten ss) (startOf (flatten ss) n)
 unfolding flatten startOf
@@ -68,17 +64,6 @@ framed-at (s ∷ ss) o (suc n) l =
 none-at-end : (s : List ℕ) (at : ℕ) → at ≡ length s → isWhole s at ≡ false
 none-at-end s at e = let d = List·getD-eq-default s 0 {n = at} (omega arith) in rw (lt-leb shortest (lengthAt s at) (omega arith))
 
--- a search stops where the test holds and not before
-module _ (f : ℕ → Bool) (k n : ℕ) where
-  stops : f n ≡ true → firstFrom f 0 k ≤ n
-  stops e = elim (decLt n (firstFrom f 0 k)) [ yes l ↦ absurd (true-false (sym e ∙ first-passed f 0 k n (omega arith) l)) | no l ↦ omega arith ]
-
-  goes-on : n ≤ k → ((i : ℕ) → i < n → f i ≡ false) → n ≤ firstFrom f 0 k
-  goes-on u h = elim (decLt (firstFrom f 0 k) n) [
-    | yes l ↦ absurd (true-false (sym (first-in f 0 k (omega arith) .holds) ∙ h (firstFrom f 0 k) l))
-    | no l ↦ omega arith
-  ]
-
 module _ (ss : List (List ℕ)) (o : Each Framed ss) where
   opens : Each Opens ss
   opens n l = record { counted = o n l .counted; long = o n l .least }
@@ -89,15 +74,15 @@ module _ (ss : List (List ℕ)) (o : Each Framed ss) where
   -- more than 512 sheets earn 20
   pub too-many-sheets : mostSheets < length ss → sheetsRefusal (flatten ss) ≡ 20
   too-many-sheets m =
-      let l = goes-on (λ n. not (isWhole (flatten ss) (startOf (flatten ss) n))) (suc mostSheets) (suc mostSheets) (omega arith) (λ i h. passes i (omega arith)) in
+      let l = first-goes-on (λ n. not (isWhole (flatten ss) (startOf (flatten ss) n))) 0 (suc mostSheets) (suc mostSheets) (omega arith) (λ i _ h. passes i (omega arith)) in
       many-refused (flatten ss) (omega arith)
 
   module _ (few : length ss ≤ mostSheets) where
     stored-all : storedCount (flatten ss) ≡ length ss
     stored-all =
         let e = end-to-end ss opens .ended in
-        let a = goes-on (λ n. not (isWhole (flatten ss) (startOf (flatten ss) n))) (suc mostSheets) (length ss) (omega arith) passes in
-        let b = stops (λ n. not (isWhole (flatten ss) (startOf (flatten ss) n))) (suc mostSheets) (length ss) (ap not (none-at-end (flatten ss) (startOf (flatten ss) (length ss)) e)) in
+        let a = first-goes-on (λ n. not (isWhole (flatten ss) (startOf (flatten ss) n))) 0 (suc mostSheets) (length ss) (omega arith) (λ i _ h. passes i h) in
+        let b = first-stops (λ n. not (isWhole (flatten ss) (startOf (flatten ss) n))) 0 (suc mostSheets) (length ss) (omega arith) (ap not (none-at-end (flatten ss) (startOf (flatten ss) (length ss)) e)) in
         omega arith
 
     -- up to 512 sheets are taken

@@ -6,7 +6,7 @@ use Prim.Native.Nat.{ℕ, zero, suc, _+_, _*_, _≤_, _<_}
 use native.Mathlib.Omega.{arith}
 use lib.Dec.{eqb, leb, ltb}
 use lib.ListN.{length}
-use borrow.Author.Tests.{eqb-true, leb-true, ltb-false, not-false}
+use borrow.Author.Tests.{eqb-true, le-leb, leb-true, ltb-false, not-false}
 use Rattle.matrix.specs.Range.{tabulate}
 use Rattle.matrix.specs.Laws.Test.{and-left, and-right}
 use Rattle.matrix.specs.Laws.Range.{first-passed}
@@ -29,6 +29,10 @@ whole-sound s at h =
       most = leb-true _ _ (and-left (leb (lengthAt s at) longest) _ r);
       inside = leb-true _ _ (and-right (leb (lengthAt s at) longest) _ r);
     }
+
+pub whole-complete : (s : List ℕ) (at : ℕ) → WholeAt s at → isWhole s at ≡ true
+whole-complete s at w =
+    rw (le-leb shortest (lengthAt s at) (w .least), le-leb (lengthAt s at) longest (w .most), le-leb (at + lengthAt s at) (length s) (w .inside))
 
 module _ (s : List ℕ) where
   pub stored-whole : (n : ℕ) → n < storedCount s → isWhole s (startOf s n) ≡ true

@@ -5,7 +5,7 @@ use mathlib.Core.List.{List, _∷_}
 use Prim.Native.Nat.{ℕ, zero, suc, _+_, _*_, _-_, _/_, _%_, _^_, _<_, _≤_}
 use native.Mathlib.Nat.{add-zero, add-suc, suc-add}
 use native.Mathlib.Omega.{arith}
-use native.Mathlib.Decide.{ℕ-discrete}
+use native.Mathlib.Decide.{ℕ-discrete, decLt}
 use lib.Count.{ones, ones-step}
 use lib.Dec.{T}
 use lib.ListN.{length, getD, drop, set, length-set}
@@ -92,7 +92,7 @@ first-step f a k r = go (f a) refl
           earlier = λ j x y. elim (ℕ-discrete a j) [ yes z ↦ subst (λ w. f w ≡ false) z p | no z ↦ s .earlier j (omega arith) y ];
         }
 
-pub true-false : true ≡ false → ⊥
+true-false : true ≡ false → ⊥
 true-false z = subst T z tt
 
 pub first-found : (f : ℕ → Bool) (a k i : ℕ) → f i ≡ true → a ≤ i → i < a + k → First f a (a + k) (firstFrom f a k)
@@ -123,6 +123,17 @@ first-passed f a k i l u = go (f i) refl
     go : (t : Bool) → f i ≡ t → f i ≡ false
     go true e = let m = first-most f a k in first-found f a k i e l (omega arith) .earlier i l u
     go false e = e
+
+-- it ends no later than where f holds
+pub first-stops : (f : ℕ → Bool) (a k i : ℕ) → a ≤ i → f i ≡ true → firstFrom f a k ≤ i
+first-stops f a k i l e = elim (decLt i (firstFrom f a k)) [ yes u ↦ absurd (true-false (sym e ∙ first-passed f a k i l u)) | no u ↦ omega arith ]
+
+-- and no sooner than that
+pub first-goes-on : (f : ℕ → Bool) (a k n : ℕ) → n ≤ a + k → ((i : ℕ) → a ≤ i → i < n → f i ≡ false) → n ≤ firstFrom f a k
+first-goes-on f a k n u h = elim (decLt (firstFrom f a k) n) [
+  | yes l ↦ let s = first-in f a k (omega arith) in absurd (true-false (sym (s .holds) ∙ h (firstFrom f a k) (s .from) l))
+  | no l ↦ omega arith
+]
 
 pub some-sound : (n : ℕ) (f : ℕ → Bool) → some n f ≡ true → (i : ℕ) × (i < n) × (f i ≡ true)
 some-sound n f e =

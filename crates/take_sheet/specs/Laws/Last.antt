@@ -1,11 +1,15 @@
 -- The last two bytes, where there are as many, and one more behind them.
 use mathlib.Core.Path.{_≡_, sym, ap, ap₂, _∙_}
+use mathlib.Core.Bool.{cond}
 use mathlib.Core.List.{List, [], _∷_, _++_, append-assoc}
-use Prim.Native.Nat.{ℕ, suc, _+_, _-_, _≤_, _<_}
+use Prim.Native.Nat.{ℕ, suc, _+_, _*_, _-_, _≤_, _<_}
 use native.Mathlib.Numerals.{add-one}
 use native.Mathlib.Omega.{arith}
+use lib.Dec.{ltb}
 use lib.ListN.{length, getD, set, take, drop, length-append, length-set, List·getD-append}
 use lib.Seq.{take-suc, drop-length, drop-cons, getD-append-add, getD-set-same, getD-set-other}
+use Rattle.bundle.specs.Bundle.{mostSheets, sheetCount, bundleRefusal}
+use Rattle.bundle.specs.Laws.Read.{longestBundle, long-refused}
 use Rattle.take_sheet.specs.Output.{lastTwo}
 
 -- byte by byte
@@ -56,3 +60,17 @@ pub last-next : (old more b : List ℕ) (i : ℕ) → i < length more → 2 ≤ 
 last-next old more b i l h k e =
     last-more b (old ++ take i more) (getD more i 0) k (let m = length-append old (take i more) in omega arith) e
     ∙ ap lastTwo (append-assoc old (take i more) (getD more i 0 ∷ []) ∙ ap (λ x. old ++ x) (sym (take-suc more i 0 l) ∙ ap (λ j. take j more) (sym (add-one i))))
+
+-- ---- what is longer than any bundle
+
+count-last : (b : List ℕ) → 2 ≤ length b → sheetCount b ≡ getD (lastTwo b) 0 0 + 256 * getD (lastTwo b) 1 0
+count-last b h =
+    let i : length b - 2 + 1 ≡ length b - 1 = omega arith in
+    ap (λ k. getD b (length b - 2) 0 + 256 * getD b k 0) i ∙ ap (λ l. getD l 0 0 + 256 * getD l 1 0) (sym (two b h))
+
+-- the bytes that are kept of such an input earn the refusal that the whole of it earns
+pub last-refused : (b c : List ℕ) → ((i : ℕ) → getD b i 0 < 256) → ((i : ℕ) → getD c i 0 < 256) → longestBundle < length b → longestBundle < length c
+    → lastTwo b ≡ lastTwo c → (n : ℕ) → bundleRefusal b n ≡ bundleRefusal c n
+last-refused b c x y h k e n =
+    let s : sheetCount b ≡ sheetCount c = count-last b (omega arith) ∙ ap (λ l. getD l 0 0 + 256 * getD l 1 0) e ∙ sym (count-last c (omega arith)) in
+    long-refused b x h n ∙ ap (λ k. cond (ltb mostSheets k) 20 21) s ∙ sym (long-refused c y k n)
