@@ -1,0 +1,65 @@
+-- What a text means is what its letters multiply to.
+use mathlib.Core.Path.{_≡_, refl, ap, subst, sym, _∙_}
+use mathlib.Core.List.{List, [], _∷_, _++_}
+use Prim.Native.Nat.{ℕ}
+use native.Mathlib.Omega.{arith}
+use lib.ListN.{length, drop}
+use Rattle.matrix.specs.Matrix.{δ}
+use Rattle.matrix.specs.Operator.{Operator, operator, timesOperator, SameOperator}
+use Rattle.matrix.specs.Laws.Matrix.{product-id-l, product-id-r}
+use Rattle.matrix.specs.Laws.Operator.{same-operator-refl, same-operator-sym, same-operator-trans, same-operator-of, times-same, times-assoc}
+use Rattle.letter.specs.declared.Gate.{Gate}
+use Rattle.letter.specs.declared.Letter.{Letter}
+use Rattle.letter.specs.declared.Letter.the-variants.{Is, Unknown}
+use Rattle.gate.specs.Product.{image, productOf, MultipliesTo}
+use Rattle.gate.specs.Reading.{Reading, gates, refusal}
+use Rattle.gate.specs.Laws.Product.{product-append}
+use Rattle.qasm.specs.Text.{versionLine, includeLine, registerLine, firstLines, textOf}
+use Rattle.qasm.specs.Reading.{lines, statementOf, earlier, statements, readText, acting, acted, meaning}
+use Rattle.qasm.specs.Laws.Lines.{after-lines}
+use Rattle.qasm.specs.Laws.Text.{read-text}
+
+-- a letter more at the end of a list: a factor more on the right
+product-last : (v : List Gate) (g : Gate) → SameOperator (productOf (v ++ g ∷ [])) (timesOperator (productOf v) (image g))
+unfolding productOf
+product-last v g =
+    same-operator-trans (product-append v (g ∷ []))
+    (times-same (same-operator-refl (productOf v)) (same-operator-of (timesOperator (image g) (operator 0 δ)) (image g) (omega arith) (product-id-r 6 (image g .matrix))))
+
+-- lines that are read act on an operator as a product with it on the right
+acted-product : (ls : List (List ℕ)) (w : List Gate) → statements ls ≡ gates w → (A : Operator) → SameOperator (acted A ls) (timesOperator (productOf w) A)
+unfolding statements productOf
+acted-product [] w e A =
+    let s : w ≡ [] = cc in
+    subst (λ v. SameOperator A (timesOperator (productOf v) A)) (sym s) (same-operator-sym (same-operator-of (timesOperator (operator 0 δ) A) A (omega arith) (product-id-l 6 (A .matrix))))
+acted-product (l ∷ ls) w e A = go (statementOf l) (statements ls) (acted-product ls) e
+  where
+    go : (x : Letter) (r : Reading) → ((v : List Gate) → r ≡ gates v → (B : Operator) → SameOperator (acted B ls) (timesOperator (productOf v) B)) → earlier x r ≡ gates w → SameOperator (acted (acting x A) ls) (timesOperator (productOf w) A)
+    go Unknown r f e = let z : _≡_ {A = ℕ} 0 1 = cc in absurd (omega arith)
+    go (Is g) (refusal n) f e = let z : _≡_ {A = ℕ} 0 1 = cc in absurd (omega arith)
+    go (Is g) (gates v) f e =
+        let t : v ++ g ∷ [] ≡ w = cc in
+        subst (λ u. SameOperator (acted (timesOperator (image g) A) ls) (timesOperator (productOf u) A)) t
+        (same-operator-trans (f v refl (timesOperator (image g) A))
+        (same-operator-trans (same-operator-sym (times-assoc (productOf v) (image g) A))
+        (times-same (same-operator-sym (product-last v g)) (same-operator-refl A))))
+
+-- the letters of a text multiply to what it means
+pub text-means : (bs : List ℕ) (w : List Gate) → readText bs ≡ gates w → MultipliesTo w (meaning bs)
+unfolding readText meaning versionLine includeLine registerLine
+text-means bs w e =
+    let a = after-lines firstLines (lines bs) w e in
+    let s : acted (operator 0 δ) (drop (length firstLines) (lines bs)) ≡ acted (operator 0 δ) (a .rest) = ap (λ ls. acted (operator 0 δ) (drop (length firstLines) ls)) (a .starts) in
+    record {
+      same = same-operator-sym (subst (λ X. SameOperator X (productOf w)) (sym s)
+          (same-operator-trans (acted-product (a .rest) w (a .reads) (operator 0 δ)) (same-operator-of (timesOperator (productOf w) (operator 0 δ)) (productOf w) (omega arith) (product-id-r 6 (productOf w .matrix)))));
+    }
+
+-- the text of a list means what the list multiplies to
+pub means-list : (w : List Gate) → MultipliesTo w (meaning (textOf w))
+means-list w = text-means (textOf w) w (read-text w)
+
+-- from text to text: where the letters of a text, and another list, multiply to one operator, the text of that list means what the first text means
+pub same-meaning : (bs : List ℕ) (w v : List Gate) (A : Operator) → readText bs ≡ gates w → MultipliesTo w A → MultipliesTo v A → SameOperator (meaning bs) (meaning (textOf v))
+same-meaning bs w v A e m n =
+    same-operator-trans (same-operator-sym (text-means bs w e .same)) (same-operator-trans (m .same) (same-operator-trans (same-operator-sym (n .same)) (means-list v .same)))

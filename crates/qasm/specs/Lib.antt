@@ -1,0 +1,5 @@
+-- Definitions first; the theorems about them are in `Laws/`.
+pub mod Text
+pub mod Reading
+pub mod Promise
+pub mod Laws

@@ -1,0 +1,114 @@
+-- The invariant: the bytes up to `end` are `count` statements.
+use mathlib.Core.Path.{_≡_, refl, ap, subst, _∙_}
+use mathlib.Core.List.{List, [], _∷_, _++_}
+use Prim.Native.Nat.{ℕ, _+_, _*_, _-_, _≤_, _<_}
+use native.Mathlib.Omega.{arith}
+use lib.ListN.{length, drop}
+use Rattle.letter.specs.declared.Gate.{Gate}
+use Rattle.qasm.specs.Reading.{lines, statements}
+use Rattle.qasm.specs.Laws.Writing.{longestStatement}
+use Rattle.qasm_read.specs.declared.Line.{Line}
+use Rattle.qasm_read.specs.declared.Line.the-variants.{Statement, Unknown}
+use Rattle.qasm_read.specs.declared.Statements.{Statements}
+use Rattle.qasm_read.specs.Statements.{StatementAt, NoStatement, LineAt, followed, StatementsFrom}
+use Rattle.qasm_read.specs.Laws.Statements.{followed-none, followed-earlier}
+use borrow.Author.Needs.{needs}
+use Rattle.qasm_read.proofs.statements_from.Statement.{statement}
+use Rattle.qasm_read.proofs.statements_from.Tie as tie
+
+record Passed (bs : List ℕ) (at count end : ℕ) : Type 0 where
+  from : at ≤ end
+  inside : end ≤ length bs
+  list : List Gate
+  counted : count ≡ length list
+  few : count ≤ end
+  short : end ≤ at + longestStatement * length list
+  reads : (rest : List ℕ) → statements (lines (drop at bs ++ rest)) ≡ followed list (statements (lines (drop end bs ++ rest)))
+
+none-passed : (bs : List ℕ) (at : ℕ) → at ≤ length bs → Passed bs at 0 at
+none-passed bs at h = record {
+  from = omega arith;
+  inside = h;
+  list = [];
+  counted = refl;
+  few = omega arith;
+  short = omega arith;
+  reads = λ rest. followed-none (statements (lines (drop at bs ++ rest)));
+}
+
+one-passed : (bs : List ℕ) (at count end : ℕ) → Passed bs at count end → (g : Gate) (next : ℕ) → StatementAt bs end g next → Passed bs at (count + 1) next
+one-passed bs at count end p g next s =
+    let f = p .from in
+    let t = s .further in
+    let k = p .few in
+    let c = p .counted in
+    let m = p .short in
+    let n = s .short in
+    record {
+      from = omega arith;
+      inside = s .inside;
+      list = g ∷ p .list;
+      counted = omega arith;
+      few = omega arith;
+      short = omega arith;
+      reads = λ rest. p .reads rest ∙ ap (followed (p .list)) (s .reads rest) ∙ followed-earlier (p .list) g (statements (lines (drop next bs ++ rest)));
+    }
+
+all-passed : (bs : List ℕ) (at : ℕ) (r : Statements) → Passed bs at (r .count) (r .end) → (r .end < length bs → NoStatement (drop (r .end) bs)) → StatementsFrom bs at r
+all-passed bs at r p n = record { from = p .from; inside = p .inside; list = p .list; count = p .counted; short = p .short; reads = p .reads; stops = n }
+
+abbrev Inv-loop : tie.InvT-loop
+Inv-loop text at count₀ end₀ count end = Passed text at count end
+
+abbrev μ-loop : tie.MeasureT-loop
+μ-loop text at count₀ end₀ count end = length text - end
+
+loop-holds : tie.Need-loop-holds Inv-loop μ-loop
+loop-holds c = none-passed _ _ (c .before .pre)
+
+statement-at-requires : tie.Need-statement-at-requires Inv-loop μ-loop
+statement-at-requires c κs = search needs
+
+enum-known-next : tie.Need-enum-known-next Inv-loop μ-loop
+enum-known-next c = search needs
+
+enum-told : tie.Need-enum-told Inv-loop μ-loop
+enum-told c = search needs
+
+returns : tie.Need-returns Inv-loop μ-loop
+returns c =
+    let r = c .before .before in
+    all-passed _ _ _ (r .before .before .loop .inv) (λ h. subst (LineAt _ _) (c .enum-told .given .1) (r .statement-at .ensures))
+
+add-count : tie.Need-add-count Inv-loop μ-loop
+add-count c = let f = c .before .before .before .before .before .loop .inv .few in omega arith
+
+loop-less : tie.Need-loop-less Inv-loop μ-loop
+loop-less c =
+    let r = c .before .before .before in
+    let f = subst (LineAt _ _) (c .before .next .given .1) (r .statement-at .ensures) .further in
+    omega arith
+
+loop-again : tie.Need-loop-again Inv-loop μ-loop
+loop-again c =
+    let r = c .before .before .before in
+    one-passed _ _ _ _ (r .before .before .loop .inv) _ _ (subst (LineAt _ _) (c .before .next .given .1) (r .statement-at .ensures))
+
+returns-2 : tie.Need-returns-2 Inv-loop μ-loop
+returns-2 c = all-passed _ _ _ (c .before .loop .inv) (λ h. absurd (omega arith))
+
+pub statements-from-spec : {M : Type 1} → statement M
+statements-from-spec =
+    tie.close
+    (tie.spec
+    Inv-loop
+    μ-loop
+    loop-holds
+    statement-at-requires
+    enum-known-next
+    enum-told
+    returns
+    add-count
+    loop-less
+    loop-again
+    returns-2)
