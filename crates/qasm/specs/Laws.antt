@@ -4,3 +4,5 @@ pub mod Text
 pub mod Meaning
 pub mod Answer
 pub mod Writing
+pub mod Refusals
+pub mod Output

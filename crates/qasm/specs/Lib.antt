@@ -2,4 +2,5 @@
 pub mod Text
 pub mod Reading
 pub mod Promise
+pub mod Output
 pub mod Laws

@@ -23,10 +23,13 @@ begins bs l = sameList (take (length l) bs) l
 
 -- the bytes from `at` up to `end` are a statement of g, whatever follows
 pub record StatementAt (bs : List ℕ) (at : ℕ) (g : Gate) (end : ℕ) : Type 0 where
-  pub further : at < end
-  pub short : end ≤ at + longestStatement
+  pub bytes : List ℕ
+  pub stands : drop at bs ≡ bytes ++ drop end bs
+  pub ends : end ≡ at + length bytes
   pub inside : end ≤ length bs
-  pub reads : (rest : List ℕ) → statements (lines (drop at bs ++ rest)) ≡ earlier (Is g) (statements (lines (drop end bs ++ rest)))
+  pub more : 0 < length bytes
+  pub short : length bytes ≤ longestStatement
+  pub reads : (rest : List ℕ) → statements (lines (bytes ++ rest)) ≡ earlier (Is g) (statements (lines rest))
 
 -- no statement stands at the front
 pub record NoStatement (bs : List ℕ) : Type 0 where
@@ -44,12 +47,14 @@ abbrev pub followed : List Gate → Reading → Reading
 followed w (gates v) = gates (v ++ w)
 followed w (refusal n) = refusal n
 
--- the bytes from `at` on are the statements of a list, whatever follows, up to the end of the bytes or to a place where no statement stands
+-- the bytes from `at` up to `end` are the statements of a list, whatever follows, and behind them the bytes are over or no statement stands
 pub record StatementsFrom (bs : List ℕ) (at : ℕ) (r : Statements) : Type 0 where
-  pub from : at ≤ r .end
+  pub bytes : List ℕ
+  pub stands : drop at bs ≡ bytes ++ drop (r .end) bs
+  pub ends : r .end ≡ at + length bytes
   pub inside : r .end ≤ length bs
   pub list : List Gate
   pub count : r .count ≡ length list
-  pub short : r .end ≤ at + longestStatement * length list
-  pub reads : (rest : List ℕ) → statements (lines (drop at bs ++ rest)) ≡ followed list (statements (lines (drop (r .end) bs ++ rest)))
+  pub short : length bytes ≤ longestStatement * length list
+  pub reads : (rest : List ℕ) → statements (lines (bytes ++ rest)) ≡ followed list (statements (lines rest))
   pub stops : r .end < length bs → NoStatement (drop (r .end) bs)

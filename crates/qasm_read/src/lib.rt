@@ -32,7 +32,7 @@ const CZ_REVERSED: [u8; 14] = *b"cz q[1],q[0];\n";
 const CS_REVERSED: [u8; 21] = *b"cu1(pi/2) q[1],q[0];\n";
 
 // The place after a line that stands at a place, or that place itself.
-fn after(text: &[u8], at: usize, line: &[u8]) -> usize
+pub fn after(text: &[u8], at: usize, line: &[u8]) -> usize
     requires { ⌜ at ≤ length (now text) ⌝ }
     ensures { λ r. ⌜ r ≡ afterLine (now (text .entry)) at (now (line .entry)) ⌝ }
 {

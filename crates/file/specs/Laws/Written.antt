@@ -60,8 +60,9 @@ module _ {bs : List ℕ} {at r : ℕ} {old new : List ℕ} (h : Appended bs at o
   pub appended-length : length new ≡ length old
   appended-length = ap length copied ∙ length-paste old at bs (length bs) fits (omega arith)
 
-  front : take r new ≡ take at old ++ bs
-  front =
+  -- the bytes up to the place after them
+  pub appended-take : take r new ≡ take at old ++ bs
+  appended-take =
       ap₂ take (h .next) copied ∙ take-paste old at bs (length bs) (omega arith) (omega arith)
       ∙ ap (λ l. take at old ++ l) (take-length bs)
 
@@ -76,6 +77,6 @@ module _ {bs : List ℕ} {at r : ℕ} {old new : List ℕ} (h : Appended bs at o
         next = let e = h .next in let f = k .next in omega arith;
         buffer =
             k .buffer
-            ∙ ap₂ (λ x y. x ++ cs ++ y) front (sym (drop-drop (length cs) r new) ∙ ap (drop (length cs)) rest ∙ drop-drop (length cs) (at + length bs) old)
+            ∙ ap₂ (λ x y. x ++ cs ++ y) appended-take (sym (drop-drop (length cs) r new) ∙ ap (drop (length cs)) rest ∙ drop-drop (length cs) (at + length bs) old)
             ∙ ap₂ (λ x m. x ++ drop m old) (append-assoc (take at old) bs cs) n;
       }

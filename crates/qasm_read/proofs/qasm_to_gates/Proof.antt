@@ -15,57 +15,50 @@ use Rattle.qasm.specs.Text.{versionLine, includeLine, registerLine, firstLines}
 use Rattle.qasm.specs.Reading.{readQasm}
 use Rattle.qasm.specs.Promise.{LettersPromise}
 use Rattle.qasm.specs.Laws.Answer.{size, refused, no-room, room, letters-promise}
-use Rattle.qasm.specs.Laws.Writing.{firstLength, length-first}
+use Rattle.qasm.specs.Laws.Writing.{firstLength}
 use Rattle.qasm_read.specs.declared.Statements.{Statements}
 use Rattle.qasm_read.specs.Statements.{begins, StatementsFrom}
-use Rattle.qasm_read.specs.Laws.Statement.{begins-long, afterLine, after-begins, after-none}
-use Rattle.qasm_read.specs.Laws.Statements.{ended, wrong, other-line, too-many, in-limit}
+use Rattle.qasm_read.specs.Laws.Statement.{afterLine}
+use Rattle.qasm_read.specs.Laws.Statements.{not-started, started, ended, wrong, other-line, too-many, in-limit}
 use Rattle.qasm_read.specs.Laws.Letters.{readFrom, listIn}
 use borrow.Author.Needs.{needs}
 use Rattle.qasm_read.proofs.qasm_to_gates.Statement.{statement}
 use Rattle.qasm_read.proofs.qasm_to_gates.Tie as tie
 
-module _ (bs : List ℕ) (first : ℕ) (e : first ≡ afterLine bs 0 (flatten firstLines)) where
-  unstarted : first ≡ 0 → readQasm bs ≡ refusal 23
-  unstarted z = wrong bs (after-none bs 0 (flatten firstLines) first e (let l = length-first in omega arith) (omega arith))
+module _ (bs : List ℕ) (first : ℕ) (e : first ≡ afterLine bs 0 (flatten firstLines)) (n : first ≢ 0) where
+  begun : begins bs (flatten firstLines) ≡ true
+  begun = started bs first e n .0
 
-  module _ (n : first ≢ 0) where
-    begun : begins bs (flatten firstLines) ≡ true
-    begun = after-begins bs 0 (flatten firstLines) first e (omega arith) .0
+  first-is : first ≡ firstLength
+  first-is = started bs first e n .1
 
-    first-is : first ≡ firstLength
-    first-is = let (t, f) = after-begins bs 0 (flatten firstLines) first e (omega arith) in let l = length-first in omega arith
+  module _ (old : List ℕ) (r : Statements) (s : StatementsFrom bs first r) where
+    from : StatementsFrom bs firstLength r
+    from = subst (λ k. StatementsFrom bs k r) first-is s
 
-    inside : first ≤ length bs
-    inside = let f = first-is in let l = begins-long bs (flatten firstLines) begun in let m = length-first in omega arith
+    line-refused : r .end < length bs → LettersPromise bs old old (Refused 23)
+    line-refused h = letters-promise (refused (map letter) old (other-line bs begun r from h))
 
-    module _ (old : List ℕ) (r : Statements) (s : StatementsFrom bs first r) where
-      from : StatementsFrom bs firstLength r
-      from = subst (λ k. StatementsFrom bs k r) first-is s
+    module _ (h : length bs ≤ r .end) where
+      many-refused : largestList < r .count → LettersPromise bs old old (Refused 7)
+      many-refused l = letters-promise (refused (map letter) old (too-many bs begun r from h l))
 
-      line-refused : r .end < length bs → LettersPromise bs old old (Refused 23)
-      line-refused h = letters-promise (refused (map letter) old (other-line bs begun r from h))
+      count-is : r .count ≡ length (map letter (s .list))
+      count-is = s .count ∙ sym (length-map (s .list) letter)
 
-      module _ (h : length bs ≤ r .end) where
-        many-refused : largestList < r .count → LettersPromise bs old old (Refused 7)
-        many-refused l = letters-promise (refused (map letter) old (too-many bs begun r from h l))
+      short-refused : r .count ≤ largestList → length old < r .count → LettersPromise bs old old (Refused 6)
+      short-refused l k = letters-promise (no-room (map letter) old (in-limit bs begun r from h l) (from .count ∙ sym (length-map (from .list) letter)) k)
 
-        count-is : r .count ≡ length (map letter (s .list))
-        count-is = s .count ∙ sym (length-map (s .list) letter)
+      read : readFrom bs first ≡ gates (s .list)
+      read = ended bs first r s h
 
-        short-refused : r .count ≤ largestList → length old < r .count → LettersPromise bs old old (Refused 6)
-        short-refused l k = letters-promise (no-room (map letter) old (in-limit bs begun r from h l) (from .count ∙ sym (length-map (from .list) letter)) k)
+      sized-is : Bytes (r .count) ≡ size (map letter) (readFrom bs first)
+      sized-is = ap Bytes count-is ∙ sym (ap (size (map letter)) read)
 
-        read : readFrom bs first ≡ gates (s .list)
-        read = ended bs first r s h
-
-        sized-is : Bytes (r .count) ≡ size (map letter) (readFrom bs first)
-        sized-is = ap Bytes count-is ∙ sym (ap (size (map letter)) read)
-
-        done : {new : List ℕ} → r .count ≤ largestList → r .count ≤ length old → new ≡ written old (map letter (listIn (readFrom bs first))) → LettersPromise bs old new (Bytes (r .count))
-        done l k b =
-            letters-promise (room (map letter) old (in-limit bs begun r from h l) (from .count ∙ sym (length-map (from .list) letter)) k
-            (b ∙ ap (λ x. written old (map letter (listIn x))) (ap (readFrom bs) first-is ∙ ended bs firstLength r from h)))
+      done : {new : List ℕ} → r .count ≤ largestList → r .count ≤ length old → new ≡ written old (map letter (listIn (readFrom bs first))) → LettersPromise bs old new (Bytes (r .count))
+      done l k b =
+          letters-promise (room (map letter) old (in-limit bs begun r from h l) (from .count ∙ sym (length-map (from .list) letter)) k
+          (b ∙ ap (λ x. written old (map letter (listIn x))) (ap (readFrom bs) first-is ∙ ended bs firstLength r from h)))
 
 slice-aggregate-after : tie.Need-slice-aggregate-after
 slice-aggregate-after c = search needs
@@ -75,11 +68,13 @@ after-requires c κs = search needs
 
 returns : tie.Need-returns
 unfolding versionLine includeLine registerLine flatten
-returns c = letters-promise (refused (map letter) _ (unstarted _ _ (c .before .after .ensures) (c .if1 .taken)))
+returns c =
+    let bs = now (c .before .before .before .before .before .args .text) in
+    letters-promise (refused (map letter) _ (wrong bs (not-started bs _ (c .before .after .ensures) (c .if1 .taken))))
 
 statements-from-requires : tie.Need-statements-from-requires
 unfolding versionLine includeLine registerLine flatten
-statements-from-requires c κs = inside (now (c .before .before .before .before .before .args .text)) _ (c .before .after .ensures) (c .if1 .left)
+statements-from-requires c κs = started (now (c .before .before .before .before .before .args .text)) _ (c .before .after .ensures) (c .if1 .left) .2
 
 returns-2 : tie.Need-returns-2
 unfolding versionLine includeLine registerLine flatten
@@ -109,7 +104,7 @@ write-letters-requires c κs =
     let f = r .before in
     let a = f .before .before .before .before .before .args in
     let n = f .if1 .left in (
-      inside (now (a .text)) _ (f .before .after .ensures) n,
+      started (now (a .text)) _ (f .before .after .ensures) n .2,
       sized-is (now (a .text)) _ (f .before .after .ensures) n (now (a .out)) _ (r .statements-from .ensures) (omega arith),
       omega arith,
     )

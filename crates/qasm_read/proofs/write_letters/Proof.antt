@@ -63,7 +63,9 @@ slice-write-out c =
 loop-less : tie.Need-loop-less Inv-loop μ-loop
 loop-less c =
     let r = c .before .before .before .before in
-    let f = subst (LineAt _ _) (c .before .before .gate .given .1) (r .statement-at .ensures) .further in
+    let s = subst (LineAt _ _) (c .before .before .gate .given .1) (r .statement-at .ensures) in
+    let e = s .ends in
+    let m = s .more in
     omega arith
 
 loop-again : tie.Need-loop-again Inv-loop μ-loop

@@ -81,9 +81,7 @@ module _ (bs : List ℕ) (w : List Gate) (old : List ℕ) where
   module _ (new : List ℕ) (at left : ℕ) (s : Going new at left) where
     module _ (g : Gate) (end : ℕ) (a : StatementAt bs at g end) where
       here : Last (readFrom bs end) g (s .list)
-      here =
-          let alone : (n : ℕ) → statements (lines (drop n bs ++ [])) ≡ readFrom bs n = λ n. ap (λ d. statements (lines d)) (append-nil (drop n bs)) in
-          last-of (readFrom bs end) g (s .list) (sym (sym (alone at) ∙ a .reads [] ∙ ap (earlier (Is g)) (alone end)) ∙ s .is)
+      here = last-of (readFrom bs end) g (s .list) (sym (ap (λ d. statements (lines d)) (a .stands) ∙ a .reads (drop end bs)) ∙ s .is)
 
       pub left-more : (0 < left) × (left ≤ length w)
       left-more =

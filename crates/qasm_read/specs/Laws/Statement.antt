@@ -40,20 +40,15 @@ record Form (l : List ℕ) (g : Gate) : Type 0 where
 
 stands : (bs : List ℕ) (at : ℕ) (l : List ℕ) (g : Gate) → Form l g → at ≤ length bs → begins (drop at bs) l ≡ true → StatementAt bs at g (at + length l)
 unfolding statements
-stands bs at l g f h t =
-    let m = f .more in
-    let s = f .short in
-    let end = at + length l in
-    record {
-      further = omega arith;
-      short = omega arith;
-      inside = let k = begins-long (drop at bs) l t in let d = length-drop at bs in omega arith;
-      reads = λ rest.
-          ap (λ d. statements (lines (d ++ rest))) (split bs at l t)
-          ∙ ap (λ d. statements (lines d)) (append-assoc l (drop end bs) rest)
-          ∙ ap statements (f .whole (drop end bs ++ rest))
-          ∙ ap (λ x. earlier x (statements (lines (drop end bs ++ rest)))) (f .of);
-    }
+stands bs at l g f h t = record {
+  bytes = l;
+  stands = split bs at l t;
+  ends = refl;
+  inside = let k = begins-long (drop at bs) l t in let d = length-drop at bs in omega arith;
+  more = f .more;
+  short = f .short;
+  reads = λ rest. ap statements (f .whole rest) ∙ ap (λ x. earlier x (statements (lines rest))) (f .of);
+}
 
 reversed-long : (g : Gate) → (0 < length (statement g)) × (length (reversed g) ≡ length (statement g))
 reversed-long H1 = (omega arith, refl)

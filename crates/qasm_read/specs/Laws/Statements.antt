@@ -1,7 +1,7 @@
 -- Statements one after the other.
 use mathlib.Core.Path.{_≡_, refl, sym, ap, subst, _∙_}
 use mathlib.Core.Bool.{true, false}
-use mathlib.Core.Logic.{_⊎_, inl, inr}
+use mathlib.Core.Logic.{_⊎_, inl, inr, _≢_}
 use mathlib.Core.List.{List, [], _∷_, _++_, flatten, append-assoc, append-nil}
 use Prim.Native.Nat.{ℕ, _+_, _*_, _≤_, _<_}
 use native.Mathlib.Omega.{arith}
@@ -15,10 +15,10 @@ use Rattle.gate.specs.Reading.{Reading, gates, refusal, largestList}
 use Rattle.qasm.specs.Text.{versionLine, includeLine, registerLine, firstLines}
 use Rattle.qasm.specs.Reading.{lines, earlier, statements, afterLines, readText, limited, readQasm}
 use Rattle.qasm.specs.Laws.Lines.{first-lines, joined-lines, After, after-cases}
-use Rattle.qasm.specs.Laws.Writing.{firstLength, longestStatement}
+use Rattle.qasm.specs.Laws.Writing.{firstLength, length-first}
 use Rattle.qasm_read.specs.declared.Statements.{Statements}
 use Rattle.qasm_read.specs.Statements.{begins, StatementAt, NoStatement, followed, StatementsFrom}
-use Rattle.qasm_read.specs.Laws.Statement.{no-statement}
+use Rattle.qasm_read.specs.Laws.Statement.{begins-long, afterLine, after-begins, after-none, no-statement}
 
 -- ---- a statement more
 
@@ -38,7 +38,7 @@ followed-twice w v (refusal n) = refl
 
 module _ (bs : List ℕ) (at : ℕ) (r : Statements) (s : StatementsFrom bs at r) where
   here : statements (lines (drop at bs)) ≡ followed (s .list) (statements (lines (drop (r .end) bs)))
-  here = sym (ap (λ d. statements (lines d)) (append-nil (drop at bs))) ∙ s .reads [] ∙ ap (λ d. followed (s .list) (statements (lines d))) (append-nil (drop (r .end) bs))
+  here = ap (λ d. statements (lines d)) (s .stands) ∙ s .reads (drop (r .end) bs)
 
   -- another line stands behind the statements
   pub stopped : r .end < length bs → statements (lines (drop at bs)) ≡ refusal 23
@@ -50,6 +50,18 @@ module _ (bs : List ℕ) (at : ℕ) (r : Statements) (s : StatementsFrom bs at r
   ended h = here ∙ ap (λ d. followed (s .list) (statements (lines d))) (drop-of-length-le bs h)
 
 -- ---- the first three lines
+
+-- by the place after them
+module _ (bs : List ℕ) (first : ℕ) (e : first ≡ afterLine bs 0 (flatten firstLines)) where
+  pub not-started : first ≡ 0 → begins bs (flatten firstLines) ≡ false
+  not-started z = after-none bs 0 (flatten firstLines) first e (let l = length-first in omega arith) (omega arith)
+
+  pub started : first ≢ 0 → (begins bs (flatten firstLines) ≡ true) × (first ≡ firstLength) × (first ≤ length bs)
+  started n =
+      let (t, f) = after-begins bs 0 (flatten firstLines) first e (omega arith) in
+      let l = length-first in
+      let m = begins-long bs (flatten firstLines) t in
+      (t, omega arith, omega arith)
 
 pub starts-right : (bs : List ℕ) → begins bs (flatten firstLines) ≡ true → readText bs ≡ statements (lines (drop firstLength bs))
 unfolding readText versionLine includeLine registerLine flatten
