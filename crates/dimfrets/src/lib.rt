@@ -8,6 +8,7 @@ ghost use Rattle.order.specs.Order.{orderAnswer};
 ghost use Rattle.sheet.specs.Promise.{OperatorPromise};
 ghost use Rattle.bundle.specs.Bundle.{partOf};
 ghost use Rattle.bundle_write.specs.Writing.{BundlePromise};
+ghost use Rattle.qasm.specs.Promise.{TextPromise, LettersPromise};
 ghost use Rattle.answer_word.specs.Encoding.{answerParts, cutsParts, listedParts, wroteParts, partParts, WordOf, Encodes};
 
 // An operator file into a sheet.
@@ -62,6 +63,24 @@ pub extern "C" fn dimfrets_sheets_to_bundle(input: &[u8], output: &mut [u8]) -> 
     ensures { λ r. ⌜ Encodes wroteParts (BundlePromise (now (input .entry)) (now (output .entry)) (now (output .exit))) r ⌝ }
 {
     let answer = bundle_write::sheets_to_bundle(input, output);
+    answer_word::encode_wrote(answer)
+}
+
+// A gate list into OpenQASM 2.0 text.
+#[no_mangle]
+pub extern "C" fn dimfrets_gates_to_qasm(input: &[u8], output: &mut [u8]) -> u64
+    ensures { λ r. ⌜ Encodes wroteParts (TextPromise (now (input .entry)) (now (output .entry)) (now (output .exit))) r ⌝ }
+{
+    let answer = qasm::gates_to_qasm(input, output);
+    answer_word::encode_wrote(answer)
+}
+
+// OpenQASM 2.0 text into a gate list.
+#[no_mangle]
+pub extern "C" fn dimfrets_qasm_to_gates(input: &[u8], output: &mut [u8]) -> u64
+    ensures { λ r. ⌜ Encodes wroteParts (LettersPromise (now (input .entry)) (now (output .entry)) (now (output .exit))) r ⌝ }
+{
+    let answer = qasm_read::qasm_to_gates(input, output);
     answer_word::encode_wrote(answer)
 }
 

@@ -1,1 +1,1 @@
-// Files to sheets and back: theorems in specs/, and no function.
+// Files to sheets and back, and text to text: theorems in specs/, and no function.

@@ -1,8 +1,8 @@
--- What the calls answer has room in the word: no refusal is numbered 0, no gate list has 2^16 letters, and no bundle 2^24 bytes.
+-- What the calls answer has room in the word: no refusal is numbered 0, no gate list has 2^16 letters, and no bundle or text 2^24 bytes.
 use mathlib.Core.Bool.{Bool, true, false, cond, _||_}
-use mathlib.Core.List.{List, [], _∷_, _++_}
-use mathlib.Core.Logic.{_≢_}
-use mathlib.Core.Path.{_≡_, refl, ap}
+use mathlib.Core.List.{List, [], _∷_, _++_, map}
+use mathlib.Core.Logic.{_≢_, _⊎_, inl, inr}
+use mathlib.Core.Path.{_≡_, refl, sym, ap, _∙_}
 use Prim.Native.Nat.{ℕ, _+_, _*_, _^_, _<_, _≤_}
 use native.Mathlib.Decide.{ℕ-discrete, decLt}
 use native.Mathlib.Omega.{arith}
@@ -14,7 +14,7 @@ use Rattle.file.specs.File.{largestExponent, fileLength}
 use Rattle.letter.specs.declared.Gate.{Gate}
 use Rattle.letter.specs.declared.Letter.{Letter}
 use Rattle.letter.specs.declared.Letter.the-variants.{Is, Unknown}
-use Rattle.letter.specs.Gate.{gateOf}
+use Rattle.letter.specs.Gate.{letter, gateOf}
 use Rattle.gate.specs.Reading as reading
 use Rattle.operator.specs.declared.Cuts.the-variants as cuts
 use Rattle.operator.specs.declared.Listed as listed
@@ -30,6 +30,10 @@ use Rattle.bundle.specs.declared.Part.the-variants as part
 use Rattle.bundle.specs.Bundle as bundle
 use Rattle.bundle_write.specs.Writing.{sheetsRefusal, sheetsBundle, bundleAnswer}
 use Rattle.bundle_write.specs.Laws.Promise.{bundle-small}
+use Rattle.qasm.specs.Text.{textOf}
+use Rattle.qasm.specs.Reading.{readLetters, readQasm}
+use Rattle.qasm.specs.Promise.{writtenAnswer}
+use Rattle.qasm.specs.Laws.Refusals.{writing-refused, text-small, reading-refused, letters-small}
 use Rattle.answer_word.specs.Encoding.{lettersOf, bytesOf}
 
 -- an answer whose refusals are apart and that can also be none
@@ -135,3 +139,30 @@ bundle-bytes s n = by (eqb (sheetsRefusal s) 0) refl (ltb n (length (sheetsBundl
     by false e t = omega arith
     by true e true = omega arith
     by true e false = let l = bundle-small s (eqb-true (sheetsRefusal s) 0 e) in omega arith
+
+-- ---- text
+
+-- a reading that is refused with another number than 0, or gives a list of fewer than 2^24 bytes
+module _ (bytesOfList : List Gate → List ℕ) (n : ℕ) where
+  written-fits : (r : reading.Reading) → r ≢ reading.refusal 0 → ((w : List Gate) → r ≡ reading.gates w → length (bytesOfList w) < 2 ^ 24)
+      → (writtenAnswer bytesOfList n r ≢ wrote.Refused 0) × (bytesOf (writtenAnswer bytesOfList n r) < 2 ^ 24)
+  written-fits (reading.refusal k) h f = (λ e. h (let z : k ≡ 0 = cc in ap reading.refusal z), omega arith)
+  written-fits (reading.gates w) h f = by (ltb n (length (bytesOfList w)))
+    where
+      by : (t : Bool) → (cond t (wrote.Refused 6) (wrote.Bytes (length (bytesOfList w))) ≢ wrote.Refused 0) × (bytesOf (cond t (wrote.Refused 6) (wrote.Bytes (length (bytesOfList w)))) < 2 ^ 24)
+      by true = (λ e. let z : _≡_ {A = ℕ} 6 0 = cc in omega arith, omega arith)
+      by false = (λ e. let z : _≡_ {A = ℕ} 0 1 = cc in omega arith, f w refl)
+
+either-not-zero : {a b n : ℕ} → a ≢ 0 → b ≢ 0 → (n ≡ a) ⊎ (n ≡ b) → n ≢ 0
+either-not-zero h k (inl e) z = h (sym e ∙ z)
+either-not-zero h k (inr e) z = k (sym e ∙ z)
+
+pub text-fits : (bs : List ℕ) (n : ℕ) → (writtenAnswer textOf n (readLetters bs) ≢ wrote.Refused 0) × (bytesOf (writtenAnswer textOf n (readLetters bs)) < 2 ^ 24)
+text-fits bs n =
+    written-fits textOf n (readLetters bs) (λ e. either-not-zero (λ z. omega arith) (λ z. omega arith) (writing-refused bs 0 e) refl)
+    (λ w e. let l = text-small bs w e in omega arith)
+
+pub letters-fit : (bs : List ℕ) (n : ℕ) → (writtenAnswer (map letter) n (readQasm bs) ≢ wrote.Refused 0) × (bytesOf (writtenAnswer (map letter) n (readQasm bs)) < 2 ^ 24)
+letters-fit bs n =
+    written-fits (map letter) n (readQasm bs) (λ e. either-not-zero (λ z. omega arith) (λ z. omega arith) (reading-refused bs 0 e) refl)
+    (λ w e. let l = letters-small bs w e in omega arith)

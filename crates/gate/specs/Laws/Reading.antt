@@ -138,12 +138,14 @@ not-above w s = elim (decLt largestExponent (leastOf w .exponent)) [
   | no h ↦ omega arith
 ]
 
-read-into : (bs : List ℕ) (w : List Gate) → reading bs ≡ gates w → ReadInto bs w
+pub read-small : (bs : List ℕ) (w : List Gate) → reading bs ≡ gates w → leastOf w .exponent ≤ largestExponent
+read-small bs w e = not-above w (subst (Outcome bs) e (list-outcome bs) .1)
+
+pub read-into : (bs : List ℕ) (w : List Gate) → reading bs ≡ gates w → ReadInto bs w
 read-into bs w e =
-    let (l, s) = subst (Outcome bs) e (list-outcome bs) in
     record {
-      letters = l;
-      multiplies = record { same = subst (SameOperator (productOf w)) (sym (operator-back (leastOf w .exponent) (leastOf w .matrix) (not-above w s) (least-of-orthogonal w) (least-of-long w))) (least-of-same w) };
+      letters = subst (Outcome bs) e (list-outcome bs) .0;
+      multiplies = record { same = subst (SameOperator (productOf w)) (sym (operator-back (leastOf w .exponent) (leastOf w .matrix) (read-small bs w e) (least-of-orthogonal w) (least-of-long w))) (least-of-same w) };
       least = subst (LeastExponent (productOf w)) (sym (exponent-back (leastOf w .exponent) (leastOf w .matrix))) (least-of-exponent w);
       count = exponent-back (leastOf w .exponent) (leastOf w .matrix);
     }
