@@ -1,2 +1,3 @@
 -- Theorems.
 pub mod Trials
+pub mod Texts

@@ -1,4 +1,4 @@
-// Document 01's trial cuts, and the cases of document 02, P1 to P4 and P7, run through the calls: a line for each case, with the answer. I is the
+// Document 01's trial cuts, and the cases of document 02, P1 to P4, P7 and P8, run through the calls: a line for each case, with the answer. I is the
 // identity, and the six rows are those of the example of `cut`.
 
 // An entry of −1, in the 16 bits of an operator file.
@@ -146,4 +146,5 @@ fn main() {
     bundles();
     no_bundles();
     stored();
+    show_qasm::cases();
 }
