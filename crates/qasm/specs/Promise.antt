@@ -17,11 +17,19 @@ use Rattle.qasm.specs.Reading.{readQasm, meaning, normalised, readLetter
 
 -- ---- where a list w is written as the bytes of `bytesOf w`
 
--- the answer, where the lent buffer has `room` bytes: "The answer is the number of bytes written." "then 6 if the text doesn't fit"; "reading ends with
--- 6 if the letters don't fit"
+-- how many bytes that are, or the refusal: "The answer is the number of bytes written."
+abbrev pub size : (List Gate → List ℕ) → Reading → Wrote
+size bytesOf (gates w) = Bytes (length (bytesOf w))
+size bytesOf (refusal n) = Refused n
+
+-- "then 6 if the text doesn't fit", "reading ends with 6 if the letters don't fit", where the lent buffer has `room` bytes
+abbrev fitting : ℕ → Wrote → Wrote
+fitting room (Bytes n) = cond (ltb room n) (Refused 6) (Bytes n)
+fitting room (Refused n) = Refused n
+
+-- the answer
 abbrev pub writtenAnswer : (List Gate → List ℕ) → ℕ → Reading → Wrote
-writtenAnswer bytesOf room (gates w) = cond (ltb room (length (bytesOf w))) (Refused 6) (Bytes (length (bytesOf w)))
-writtenAnswer bytesOf room (refusal n) = Refused n
+writtenAnswer bytesOf room r = fitting room (size bytesOf r)
 
 -- the buffer afterwards
 abbrev pub writtenBuffer : (List Gate → List ℕ) → List ℕ → Reading → List ℕ

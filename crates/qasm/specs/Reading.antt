@@ -113,3 +113,12 @@ lettersOf (b ∷ bs) = before (gateOf b) (lettersOf bs)
 -- "Writing checks 7, then 8"; "neither checks 9"
 unfoldable pub readLetters : List ℕ → Reading
 readLetters bs = cond (ltb largestList (length bs)) (refusal 7) (lettersOf bs)
+
+-- the statements of letters, from the last to the first; a byte that is no letter has none
+abbrev pub lineOf : Letter → List ℕ
+lineOf Unknown = []
+lineOf (Is g) = statement g
+
+unfoldable pub bodyOf : List ℕ → List ℕ
+bodyOf [] = []
+bodyOf (b ∷ bs) = bodyOf bs ++ lineOf (gateOf b)

@@ -1,8 +1,9 @@
 -- The OpenQASM 2.0 text of a gate list (document 02, P8). A text is the list of its bytes, in ASCII.
 use mathlib.Core.List.{List, [], _∷_, _++_, flatten}
-use Prim.Native.Nat.{ℕ}
+use Prim.Native.Nat.{ℕ, _+_, _*_}
 use Rattle.letter.specs.declared.Gate.{Gate}
 use Rattle.letter.specs.declared.Gate.the-variants.{H1, H2, S1, S2, Cz, Cs}
+use Rattle.gate.specs.Reading.{largestList}
 
 -- "lines in a line feed"
 abbrev pub lineFeed : ℕ
@@ -24,6 +25,10 @@ registerLine = 113 ∷ 114 ∷ 101 ∷ 103 ∷ 32 ∷ 113 ∷ 91 ∷ 50 ∷ 93 �
 
 abbrev pub firstLines : List (List ℕ)
 firstLines = versionLine ∷ includeLine ∷ registerLine ∷ []
+
+-- their bytes
+abbrev pub firstLength : ℕ
+firstLength = 47
 
 -- ---- statements
 
@@ -75,6 +80,10 @@ statement g = line (name g) (qubits g)
 abbrev pub reversed : Gate → List ℕ
 reversed g = line (name g) (qubitsReversed g)
 
+-- the most bytes of one
+abbrev pub longestStatement : ℕ
+longestStatement = 21
+
 -- ---- the text of a list
 
 -- "Text runs in time order, so its first statement is the last letter."
@@ -85,3 +94,7 @@ body (g ∷ w) = body w ++ statement g
 -- "Write gate lists as … a subset: the lines …, then one statement a line"
 unfoldable pub textOf : List Gate → List ℕ
 textOf w = flatten firstLines ++ body w
+
+-- the most bytes of a text that is written: "more than 8,192 letters" are refused
+abbrev pub longestText : ℕ
+longestText = firstLength + longestStatement * largestList

@@ -10,10 +10,8 @@ ghost use Rattle.file.specs.File.{Appended};
 ghost use Rattle.letter.specs.Gate.{gateOf};
 ghost use Rattle.gate.specs.Reading.{largestList};
 ghost use Rattle.qasm.specs.Text.{statement, textOf};
-ghost use Rattle.qasm.specs.Reading.{lettersOf};
-ghost use Rattle.qasm.specs.Promise.{TextPromise};
-ghost use Rattle.qasm.specs.Laws.Answer.{size};
-ghost use Rattle.qasm.specs.Laws.Writing.{lineOf, bodyOf};
+ghost use Rattle.qasm.specs.Reading.{lettersOf, lineOf, bodyOf};
+ghost use Rattle.qasm.specs.Promise.{size, TextPromise};
 
 // The first three lines.
 pub const FIRST_LINES: [u8; 47] = *b"OPENQASM 2.0;\ninclude \"qelib1.inc\";\nqreg q[2];\n";

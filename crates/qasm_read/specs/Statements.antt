@@ -1,6 +1,6 @@
 -- A text read from a place on, a statement at a time.
-use mathlib.Core.Bool.{Bool, true, false}
-use mathlib.Core.List.{List, _++_}
+use mathlib.Core.Bool.{Bool, false, cond}
+use mathlib.Core.List.{List, [], _++_}
 use mathlib.Core.Path.{_≡_}
 use Prim.Native.Nat.{ℕ, _+_, _*_, _≤_, _<_}
 use lib.ListN.{length, take, drop}
@@ -8,9 +8,8 @@ use Rattle.matrix.specs.List.{sameList}
 use Rattle.letter.specs.declared.Gate.{Gate}
 use Rattle.letter.specs.declared.Letter.the-variants.{Is}
 use Rattle.gate.specs.Reading.{Reading, gates, refusal}
-use Rattle.qasm.specs.Text.{statement, reversed}
+use Rattle.qasm.specs.Text.{statement, reversed, longestStatement}
 use Rattle.qasm.specs.Reading.{lines, earlier, statements}
-use Rattle.qasm.specs.Laws.Writing.{longestStatement}
 use Rattle.qasm_read.specs.declared.Line.{Line}
 use Rattle.qasm_read.specs.declared.Line.the-variants.{Statement, Unknown}
 use Rattle.qasm_read.specs.declared.Statements.{Statements}
@@ -18,6 +17,19 @@ use Rattle.qasm_read.specs.declared.Statements.{Statements}
 -- whether the bytes bs begin with a line
 abbrev pub begins : List ℕ → List ℕ → Bool
 begins bs l = sameList (take (length l) bs) l
+
+-- the place after a line that stands at `at`, or `at`
+abbrev pub afterLine : List ℕ → ℕ → List ℕ → ℕ
+afterLine bs at l = cond (begins (drop at bs) l) (at + length l) at
+
+-- what the bytes from a place on are read as
+abbrev pub readFrom : List ℕ → ℕ → Reading
+readFrom bs at = statements (lines (drop at bs))
+
+-- the list of what is read
+abbrev pub listIn : Reading → List Gate
+listIn (gates w) = w
+listIn (refusal n) = []
 
 -- ---- one statement
 

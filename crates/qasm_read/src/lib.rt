@@ -8,11 +8,8 @@ ghost use Prim.Native.Nat.{_≤_};
 ghost use lib.ListN.{length};
 ghost use Rattle.file.specs.File.{written};
 ghost use Rattle.letter.specs.Gate.{letter};
-ghost use Rattle.qasm.specs.Promise.{LettersPromise};
-ghost use Rattle.qasm.specs.Laws.Answer.{size};
-ghost use Rattle.qasm_read.specs.Statements.{LineAt, StatementsFrom};
-ghost use Rattle.qasm_read.specs.Laws.Statement.{afterLine};
-ghost use Rattle.qasm_read.specs.Laws.Letters.{readFrom, listIn};
+ghost use Rattle.qasm.specs.Promise.{size, LettersPromise};
+ghost use Rattle.qasm_read.specs.Statements.{afterLine, readFrom, listIn, LineAt, StatementsFrom};
 
 // What stands at a place of a text: a statement, its gate and the place after it, or none.
 pub enum Line {

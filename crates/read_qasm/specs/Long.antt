@@ -10,8 +10,7 @@ use Rattle.letter.specs.Gate.{letter}
 use Rattle.gate.specs.Reading.{Reading, gates, refusal}
 use Rattle.qasm.specs.Reading.{lines, statements, readQasm}
 use Rattle.qasm.specs.Output.{outputOf}
-use Rattle.qasm.specs.Laws.Writing.{longestStatement}
-use Rattle.qasm.specs.Laws.Refusals.{longestText}
+use Rattle.qasm.specs.Text.{longestStatement, longestText}
 use Rattle.qasm_read.specs.Statements.{NoStatement}
 
 -- a text of so many bytes has more than 8,192 statements, or a line that is none

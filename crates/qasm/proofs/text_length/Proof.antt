@@ -1,5 +1,5 @@
 -- The invariant: the letters from i on are gates, whose text has n bytes.
-use mathlib.Core.Path.{_≡_, refl, sym, ap, _∙_}
+use mathlib.Core.Path.{_≡_, sym, ap, _∙_}
 use mathlib.Core.List.{List, [], _∷_, _++_, flatten}
 use Prim.Native.Nat.{ℕ, _+_, _*_, _-_, _≤_, _<_}
 use native.Mathlib.Omega.{arith}
@@ -9,12 +9,12 @@ use Rattle.letter.specs.declared.Gate.{Gate}
 use Rattle.letter.specs.declared.Letter.{Letter}
 use Rattle.letter.specs.declared.Letter.the-variants.{Is, Unknown}
 use Rattle.letter.specs.Gate.{gateOf}
-use Rattle.gate.specs.Reading.{gates, refusal}
+use Rattle.gate.specs.Reading.{gates}
 use Rattle.file.specs.declared.Wrote.the-variants.{Bytes, Refused}
-use Rattle.qasm.specs.Text.{firstLines, statement as line, body, textOf}
+use Rattle.qasm.specs.Text.{firstLines, statement as line, body, textOf, firstLength, longestStatement}
 use Rattle.qasm.specs.Reading.{before, lettersOf}
-use Rattle.qasm.specs.Laws.Answer.{size}
-use Rattle.qasm.specs.Laws.Writing.{firstLength, length-first, longestStatement, statement-long, letters-next, letters-unknown}
+use Rattle.qasm.specs.Promise.{size}
+use Rattle.qasm.specs.Laws.Writing.{length-first, statement-long, letters-next, letters-unknown}
 use borrow.Author.Needs.{needs}
 use Rattle.qasm.proofs.text_length.Statement.{statement}
 use Rattle.qasm.proofs.text_length.Tie as tie

@@ -1,7 +1,7 @@
 -- Both arms are those of the definition.
 use mathlib.Core.Path.{sym, ap, _∙_}
 use Rattle.file.specs.Laws.Written.{appended-as, appended-none}
-use Rattle.qasm.specs.Laws.Writing.{lineOf}
+use Rattle.qasm.specs.Reading.{lineOf}
 use borrow.Author.Needs.{needs}
 use Rattle.qasm.proofs.write_letter.Statement.{statement}
 use Rattle.qasm.proofs.write_letter.Tie as tie

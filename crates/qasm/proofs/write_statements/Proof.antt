@@ -9,7 +9,8 @@ use lib.Seq.{drop-length}
 use Rattle.letter.specs.Gate.{gateOf}
 use Rattle.file.specs.File.{Appended}
 use Rattle.file.specs.Laws.Written.{appended-as, appended-none, appended-length, appended-append}
-use Rattle.qasm.specs.Laws.Writing.{lineOf, bodyOf, body-next, body-room}
+use Rattle.qasm.specs.Reading.{lineOf, bodyOf}
+use Rattle.qasm.specs.Laws.Writing.{body-next, body-room}
 use borrow.Author.Needs.{needs}
 use Rattle.qasm.proofs.write_statements.Statement.{statement}
 use Rattle.qasm.proofs.write_statements.Tie as tie

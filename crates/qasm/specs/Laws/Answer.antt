@@ -13,15 +13,11 @@ use Rattle.letter.specs.Gate.{letter}
 use Rattle.gate.specs.Reading.{Reading, gates, refusal}
 use Rattle.qasm.specs.Text.{textOf}
 use Rattle.qasm.specs.Reading.{readQasm, readLetters}
-use Rattle.qasm.specs.Promise.{writtenAnswer, writtenBuffer, WrittenAs, TextPromise, ReadAs, LettersPromise}
+use Rattle.qasm.specs.Promise.{size, writtenAnswer, writtenBuffer, WrittenAs, TextPromise, ReadAs, LettersPromise}
 use Rattle.qasm.specs.Laws.Text.{written-again, read-within, text-read, letters-taken, taken-letters}
 use Rattle.qasm.specs.Laws.Meaning.{text-means, means-list}
 
 -- ---- how many bytes a list is written as
-
-abbrev pub size : (List Gate → List ℕ) → Reading → Wrote
-size bytesOf (gates w) = Bytes (length (bytesOf w))
-size bytesOf (refusal n) = Refused n
 
 pub record Sized (bytesOf : List Gate → List ℕ) (r : Reading) (n : ℕ) : Type 0 where
   pub list : List Gate

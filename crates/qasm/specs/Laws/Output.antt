@@ -5,7 +5,6 @@ use Prim.Native.Nat.{ℕ, _≤_}
 use native.Mathlib.Omega.{arith}
 use lib.ListN.{length}
 use borrow.Author.Tests.{le-ltb}
-use Rattle.file.specs.declared.Wrote.{Wrote}
 use Rattle.file.specs.declared.Wrote.the-variants.{Bytes, Refused}
 use Rattle.file.specs.File.{written, Appended}
 use Rattle.letter.specs.declared.Gate.{Gate}

@@ -1,9 +1,9 @@
 -- Which refusals the calls have, and how long what they write is.
-use mathlib.Core.Path.{_≡_, refl, sym, ap, _∙_}
+use mathlib.Core.Path.{_≡_, _∙_}
 use mathlib.Core.Bool.{Bool, true, false, cond}
 use mathlib.Core.Logic.{_⊎_, inl, inr}
 use mathlib.Core.List.{List, [], _∷_, map}
-use Prim.Native.Nat.{ℕ, _+_, _*_, _≤_}
+use Prim.Native.Nat.{ℕ, _≤_}
 use native.Mathlib.Omega.{arith}
 use lib.Dec.{ltb}
 use lib.ListN.{length, length-map}
@@ -12,11 +12,11 @@ use Rattle.letter.specs.declared.Letter.{Letter}
 use Rattle.letter.specs.declared.Letter.the-variants.{Is, Unknown}
 use Rattle.letter.specs.Gate.{letter, gateOf}
 use Rattle.gate.specs.Reading.{Reading, gates, refusal, largestList}
-use Rattle.qasm.specs.Text.{firstLines, textOf}
+use Rattle.qasm.specs.Text.{firstLines, textOf, longestText}
 use Rattle.qasm.specs.Reading.{lines, statementOf, earlier, statements, afterLines, readText, limited, readQasm, before, lettersOf, readLetters}
 use Rattle.qasm.specs.Laws.Lines.{After, after-cases}
 use Rattle.qasm.specs.Laws.Text.{read-within, taken-letters}
-use Rattle.qasm.specs.Laws.Writing.{firstLength, longestStatement, text-long}
+use Rattle.qasm.specs.Laws.Writing.{text-long}
 
 -- ---- writing
 
@@ -38,10 +38,6 @@ writing-refused bs n e = go (ltb largestList (length bs)) e
     go : (t : Bool) → cond t (refusal 7) (lettersOf bs) ≡ refusal n → (n ≡ 7) ⊎ (n ≡ 8)
     go true e = inl (cc)
     go false e = inr (letters-refused bs n e)
-
--- the most bytes of a text
-abbrev pub longestText : ℕ
-longestText = firstLength + longestStatement * largestList
 
 pub text-small : (bs : List ℕ) (w : List Gate) → readLetters bs ≡ gates w → length (textOf w) ≤ longestText
 text-small bs w e = let l = taken-letters bs w e .1 in let t = text-long w in omega arith

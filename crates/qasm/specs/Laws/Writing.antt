@@ -1,5 +1,5 @@
 -- The text of a list, from its letters.
-use mathlib.Core.Path.{_≡_, refl, sym, ap, ap₂, _∙_}
+use mathlib.Core.Path.{_≡_, refl, sym, ap, _∙_}
 use mathlib.Core.List.{List, [], _∷_, _++_, flatten}
 use Prim.Native.Nat.{ℕ, zero, suc, _+_, _*_, _≤_, _<_}
 use native.Mathlib.Numerals.{add-one}
@@ -13,22 +13,14 @@ use Rattle.letter.specs.declared.Letter.{Letter}
 use Rattle.letter.specs.declared.Letter.the-variants.{Is, Unknown}
 use Rattle.letter.specs.Gate.{gateOf}
 use Rattle.gate.specs.Reading.{Reading, gates, refusal, largestList}
-use Rattle.qasm.specs.Text.{versionLine, includeLine, registerLine, firstLines, statement, body, textOf}
-use Rattle.qasm.specs.Reading.{before, lettersOf, readLetters}
+use Rattle.qasm.specs.Text.{versionLine, includeLine, registerLine, firstLines, firstLength, statement, longestStatement, body, textOf}
+use Rattle.qasm.specs.Reading.{before, lettersOf, readLetters, lineOf, bodyOf}
 
 -- ---- lengths
-
--- the bytes of the first three lines
-abbrev pub firstLength : ℕ
-firstLength = 47
 
 pub length-first : length (flatten firstLines) ≡ firstLength
 unfolding versionLine includeLine registerLine flatten
 length-first = refl
-
--- the most bytes of a statement
-abbrev pub longestStatement : ℕ
-longestStatement = 21
 
 pub statement-long : (g : Gate) → length (statement g) ≤ longestStatement
 statement-long H1 = omega arith
@@ -48,15 +40,7 @@ pub text-long : (w : List Gate) → length (textOf w) ≤ firstLength + longestS
 unfolding textOf
 text-long w = let b = body-long w in let l = length-append (flatten firstLines) (body w) in let f = length-first in omega arith
 
--- ---- the statements of letters, where a byte that is no letter has none
-
-abbrev pub lineOf : Letter → List ℕ
-lineOf Unknown = []
-lineOf (Is g) = statement g
-
-unfoldable pub bodyOf : List ℕ → List ℕ
-bodyOf [] = []
-bodyOf (b ∷ bs) = bodyOf bs ++ lineOf (gateOf b)
+-- ---- the statements of letters
 
 pub body-of : (bs : List ℕ) (w : List Gate) → lettersOf bs ≡ gates w → bodyOf bs ≡ body w
 unfolding lettersOf body bodyOf

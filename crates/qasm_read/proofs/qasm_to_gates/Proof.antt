@@ -10,17 +10,13 @@ use lib.ListN.{length, length-map}
 use Rattle.file.specs.declared.Wrote.the-variants.{Bytes, Refused}
 use Rattle.file.specs.File.{written}
 use Rattle.letter.specs.Gate.{letter}
-use Rattle.gate.specs.Reading.{gates, refusal, largestList}
-use Rattle.qasm.specs.Text.{versionLine, includeLine, registerLine, firstLines}
-use Rattle.qasm.specs.Reading.{readQasm}
-use Rattle.qasm.specs.Promise.{LettersPromise}
-use Rattle.qasm.specs.Laws.Answer.{size, refused, no-room, room, letters-promise}
-use Rattle.qasm.specs.Laws.Writing.{firstLength}
+use Rattle.gate.specs.Reading.{gates, largestList}
+use Rattle.qasm.specs.Text.{versionLine, includeLine, registerLine, firstLines, firstLength}
+use Rattle.qasm.specs.Promise.{LettersPromise, size}
+use Rattle.qasm.specs.Laws.Answer.{refused, no-room, room, letters-promise}
 use Rattle.qasm_read.specs.declared.Statements.{Statements}
-use Rattle.qasm_read.specs.Statements.{begins, StatementsFrom}
-use Rattle.qasm_read.specs.Laws.Statement.{afterLine}
+use Rattle.qasm_read.specs.Statements.{begins, StatementsFrom, afterLine, readFrom, listIn}
 use Rattle.qasm_read.specs.Laws.Statements.{not-started, started, ended, wrong, other-line, too-many, in-limit}
-use Rattle.qasm_read.specs.Laws.Letters.{readFrom, listIn}
 use borrow.Author.Needs.{needs}
 use Rattle.qasm_read.proofs.qasm_to_gates.Statement.{statement}
 use Rattle.qasm_read.proofs.qasm_to_gates.Tie as tie

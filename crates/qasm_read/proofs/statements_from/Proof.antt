@@ -6,9 +6,7 @@ use native.Mathlib.Omega.{arith}
 use lib.ListN.{length, drop, length-append}
 use Rattle.letter.specs.declared.Gate.{Gate}
 use Rattle.qasm.specs.Reading.{lines, statements}
-use Rattle.qasm.specs.Laws.Writing.{longestStatement}
-use Rattle.qasm_read.specs.declared.Line.{Line}
-use Rattle.qasm_read.specs.declared.Line.the-variants.{Statement, Unknown}
+use Rattle.qasm.specs.Text.{longestStatement}
 use Rattle.qasm_read.specs.declared.Statements.{Statements}
 use Rattle.qasm_read.specs.Statements.{StatementAt, NoStatement, LineAt, followed, StatementsFrom}
 use Rattle.qasm_read.specs.Laws.Statements.{followed-none, followed-earlier}

@@ -7,9 +7,9 @@ use denote.Ref.{now}
 use lib.ListN.{length}
 use Rattle.file.specs.declared.Wrote.the-variants.{Bytes}
 use Rattle.letter.specs.Gate.{letter}
-use Rattle.qasm.specs.Laws.Answer.{size}
-use Rattle.qasm_read.specs.Statements.{LineAt}
-use Rattle.qasm_read.specs.Laws.Letters.{readFrom, listIn, list-in, Going, start, left-more, turn, never, finished}
+use Rattle.qasm.specs.Promise.{size}
+use Rattle.qasm_read.specs.Statements.{LineAt, readFrom, listIn}
+use Rattle.qasm_read.specs.Laws.Letters.{list-in, Going, start, left-more, turn, never, finished}
 use borrow.Author.Needs.{needs}
 use Rattle.qasm_read.proofs.write_letters.Statement.{statement}
 use Rattle.qasm_read.proofs.write_letters.Tie as tie

@@ -1,5 +1,5 @@
 -- The letters of a text's statements, written from the last place to the first.
-use mathlib.Core.Path.{_≡_, refl, sym, ap, ap₂, subst, _∙_}
+use mathlib.Core.Path.{_≡_, refl, sym, ap, ap₂, _∙_}
 use mathlib.Core.List.{List, [], _∷_, _++_, map, append-nil, append-assoc}
 use Prim.Native.Nat.{ℕ, suc, _-_, _≤_, _<_}
 use native.Mathlib.Omega.{arith}
@@ -12,18 +12,10 @@ use Rattle.letter.specs.declared.Letter.the-variants.{Is}
 use Rattle.letter.specs.Gate.{letter}
 use Rattle.gate.specs.Reading.{Reading, gates, refusal}
 use Rattle.qasm.specs.Reading.{lines, earlier, statements}
-use Rattle.qasm.specs.Laws.Answer.{size, sized}
-use Rattle.qasm_read.specs.Statements.{StatementAt, NoStatement}
+use Rattle.qasm.specs.Promise.{size}
+use Rattle.qasm.specs.Laws.Answer.{sized}
+use Rattle.qasm_read.specs.Statements.{StatementAt, NoStatement, readFrom, listIn}
 use Rattle.qasm_read.specs.Laws.Statement.{no-statement}
-
--- what the bytes from a place on are read as
-abbrev pub readFrom : List ℕ → ℕ → Reading
-readFrom bs at = statements (lines (drop at bs))
-
--- the list that is read
-abbrev pub listIn : Reading → List Gate
-listIn (gates w) = w
-listIn (refusal n) = []
 
 pub list-in : (r : Reading) (n : ℕ) → Bytes n ≡ size (map letter) r → (r ≡ gates (listIn r)) × (n ≡ length (listIn r))
 list-in r n e =

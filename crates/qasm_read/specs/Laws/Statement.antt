@@ -2,7 +2,7 @@
 use mathlib.Core.Path.{_≡_, refl, sym, ap, ap₂, subst, _∙_}
 use mathlib.Core.Bool.{Bool, true, false, cond}
 use mathlib.Core.Logic.{inl, inr}
-use mathlib.Core.List.{List, [], _∷_, _++_, append-assoc}
+use mathlib.Core.List.{List, [], _∷_, _++_}
 use Prim.Native.Nat.{ℕ, _+_, _≤_, _<_}
 use native.Mathlib.Omega.{arith}
 use lib.Dec.{T}
@@ -15,11 +15,11 @@ use Rattle.letter.specs.declared.Gate.the-variants.{H1, H2, S1, S2, Cz, Cs}
 use Rattle.letter.specs.declared.Letter.{Letter}
 use Rattle.letter.specs.declared.Letter.the-variants.{Is, Unknown}
 use Rattle.gate.specs.Reading.{refusal}
-use Rattle.qasm.specs.Text.{statement, reversed}
+use Rattle.qasm.specs.Text.{statement, reversed, longestStatement}
 use Rattle.qasm.specs.Reading.{lines, statementOf, earlier, statements}
 use Rattle.qasm.specs.Laws.Lines.{FirstLine, first-line, statement-line, reversed-line, statement-of, reversed-of, forms}
-use Rattle.qasm.specs.Laws.Writing.{longestStatement, statement-long}
-use Rattle.qasm_read.specs.Statements.{begins, StatementAt, NoStatement}
+use Rattle.qasm.specs.Laws.Writing.{statement-long}
+use Rattle.qasm_read.specs.Statements.{begins, afterLine, StatementAt, NoStatement}
 
 -- ---- a line at a place
 
@@ -57,10 +57,6 @@ reversed-long S1 = (omega arith, refl)
 reversed-long S2 = (omega arith, refl)
 reversed-long Cz = (omega arith, refl)
 reversed-long Cs = (omega arith, refl)
-
--- the place after a line that stands at `at`, or `at`
-abbrev pub afterLine : List ℕ → ℕ → List ℕ → ℕ
-afterLine bs at l = cond (begins (drop at bs) l) (at + length l) at
 
 pub after-begins : (bs : List ℕ) (at : ℕ) (l : List ℕ) (r : ℕ) → r ≡ afterLine bs at l → at < r → (begins (drop at bs) l ≡ true) × (r ≡ at + length l)
 after-begins bs at l r = go (begins (drop at bs) l)

@@ -3,22 +3,22 @@ use mathlib.Core.Path.{_≡_, refl, sym, ap, subst, _∙_}
 use mathlib.Core.Bool.{true, false}
 use mathlib.Core.Logic.{_⊎_, inl, inr, _≢_}
 use mathlib.Core.List.{List, [], _∷_, _++_, flatten, append-assoc, append-nil}
-use Prim.Native.Nat.{ℕ, _+_, _*_, _≤_, _<_}
+use Prim.Native.Nat.{ℕ, _+_, _≤_, _<_}
 use native.Mathlib.Omega.{arith}
 use lib.Dec.{T}
-use lib.ListN.{length, take, drop, take-append-drop, length-append, length-drop, drop-of-length-le}
+use lib.ListN.{length, take, drop, take-append-drop, length-drop, drop-of-length-le}
 use borrow.Author.Tests.{lt-ltb, le-ltb}
 use Rattle.matrix.specs.Laws.Test.{same-list}
 use Rattle.letter.specs.declared.Gate.{Gate}
 use Rattle.letter.specs.declared.Letter.the-variants.{Is}
 use Rattle.gate.specs.Reading.{Reading, gates, refusal, largestList}
-use Rattle.qasm.specs.Text.{versionLine, includeLine, registerLine, firstLines}
+use Rattle.qasm.specs.Text.{versionLine, includeLine, registerLine, firstLines, firstLength}
 use Rattle.qasm.specs.Reading.{lines, earlier, statements, afterLines, readText, limited, readQasm}
 use Rattle.qasm.specs.Laws.Lines.{first-lines, joined-lines, After, after-cases}
-use Rattle.qasm.specs.Laws.Writing.{firstLength, length-first}
+use Rattle.qasm.specs.Laws.Writing.{length-first}
 use Rattle.qasm_read.specs.declared.Statements.{Statements}
-use Rattle.qasm_read.specs.Statements.{begins, StatementAt, NoStatement, followed, StatementsFrom}
-use Rattle.qasm_read.specs.Laws.Statement.{begins-long, afterLine, after-begins, after-none, no-statement}
+use Rattle.qasm_read.specs.Statements.{begins, followed, StatementsFrom, afterLine}
+use Rattle.qasm_read.specs.Laws.Statement.{begins-long, after-begins, after-none, no-statement}
 
 -- ---- a statement more
 
@@ -29,10 +29,6 @@ followed-none (refusal n) = refl
 pub followed-earlier : (w : List Gate) (g : Gate) (r : Reading) → followed w (earlier (Is g) r) ≡ followed (g ∷ w) r
 followed-earlier w g (gates v) = ap gates (append-assoc v (g ∷ []) w)
 followed-earlier w g (refusal n) = refl
-
-pub followed-twice : (w v : List Gate) (r : Reading) → followed w (followed v r) ≡ followed (v ++ w) r
-followed-twice w v (gates u) = ap gates (append-assoc u v w)
-followed-twice w v (refusal n) = refl
 
 -- ---- what is read from a place on
 

@@ -1,8 +1,8 @@
 -- Long texts.
-use mathlib.Core.Path.{_≡_, refl, sym, ap, ap₂, subst, _∙_}
+use mathlib.Core.Path.{_≡_, refl, sym, ap, subst, _∙_}
 use mathlib.Core.Bool.{true, false}
-use mathlib.Core.List.{List, [], _∷_, _++_, flatten, append-assoc, append-nil}
-use Prim.Native.Nat.{ℕ, _+_, _*_, _-_, _≤_, _<_}
+use mathlib.Core.List.{List, [], _++_, flatten, append-assoc}
+use Prim.Native.Nat.{ℕ, _+_, _-_, _≤_, _<_}
 use native.Mathlib.Omega.{arith}
 use lib.ListN.{length, take, drop, length-append, length-drop}
 use lib.Seq.{take-append-le, drop-append-le, length-take-le}
@@ -10,10 +10,9 @@ use borrow.Author.Tests.{lt-ltb}
 use Rattle.matrix.specs.List.{sameList}
 use Rattle.letter.specs.declared.Gate.{Gate}
 use Rattle.gate.specs.Reading.{Reading, gates, refusal, largestList}
-use Rattle.qasm.specs.Text.{firstLines}
+use Rattle.qasm.specs.Text.{firstLines, firstLength, longestStatement, longestText}
 use Rattle.qasm.specs.Reading.{lines, statements, readText, limited, readQasm}
-use Rattle.qasm.specs.Laws.Writing.{firstLength, length-first, longestStatement}
-use Rattle.qasm.specs.Laws.Refusals.{longestText}
+use Rattle.qasm.specs.Laws.Writing.{length-first}
 use Rattle.qasm_read.specs.declared.Statements.{Statements}
 use Rattle.qasm_read.specs.Statements.{begins, NoStatement, followed, StatementsFrom}
 use Rattle.qasm_read.specs.Laws.Statement.{no-statement, no-statement-more}

@@ -1,8 +1,8 @@
 -- A long text read on to its end.
-use mathlib.Core.Path.{_≡_, refl, sym, ap, _∙_}
+use mathlib.Core.Path.{_≡_, sym, ap, _∙_}
 use mathlib.Core.List.{List, [], _++_, append-assoc, append-nil}
 use mathlib.Core.Logic.{_≢_}
-use Prim.Native.Nat.{ℕ, zero, suc, _+_, _≤_, _<_}
+use Prim.Native.Nat.{ℕ, _+_, _≤_, _<_}
 use native.Mathlib.Decide.{ℕ-discrete}
 use native.Mathlib.Omega.{arith}
 use lib.ListN.{length, take, drop, length-append}
@@ -10,7 +10,7 @@ use lib.Seq.{length-take-le}
 use borrow.Author.Tests.{eq-eqb, ne-eqb}
 use Rattle.gate.specs.Reading.{refusal}
 use Rattle.qasm.specs.Reading.{readQasm}
-use Rattle.qasm.specs.Laws.Writing.{longestStatement}
+use Rattle.qasm.specs.Text.{longestStatement}
 use Rattle.qasm_read.specs.Statements.{NoStatement}
 use Rattle.read_qasm.specs.Long.{behind, StartOf, LeftOf, Earned, lastRefusal}
 use Rattle.read_qasm.specs.Laws.Long.{behind-none, behind-wrong, behind-stuck}

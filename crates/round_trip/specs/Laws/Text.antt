@@ -1,13 +1,13 @@
 -- From text to text: a text read, its letters multiplied, the product cut, and the list written as text.
-use mathlib.Core.Path.{_≡_, ap}
+use mathlib.Core.Path.{_≡_}
 use mathlib.Core.List.{List, map}
 use Prim.Native.Nat.{ℕ, _+_, _*_, _≤_}
 use native.Mathlib.Omega.{arith}
 use lib.ListN.{length}
 use Rattle.matrix.specs.Operator.{SameOperator}
 use Rattle.matrix.specs.Laws.Operator.{same-operator-sym, same-operator-trans}
-use Rattle.file.specs.File.{largestExponent, fileLength, fileExponent, fileOperator, written}
-use Rattle.file.specs.Laws.File.{length-file, exponent-back}
+use Rattle.file.specs.File.{largestExponent, fileOperator, written}
+use Rattle.file.specs.Laws.File.{length-file}
 use Rattle.letter.specs.declared.Gate.{Gate}
 use Rattle.letter.specs.Gate.{letter}
 use Rattle.gate.specs.Product.{MultipliesTo, csGates}
