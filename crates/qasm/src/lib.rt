@@ -13,8 +13,16 @@ ghost use Rattle.qasm.specs.Text.{statement, textOf};
 ghost use Rattle.qasm.specs.Reading.{lettersOf, lineOf, bodyOf};
 ghost use Rattle.qasm.specs.Promise.{size, TextPromise};
 
+// The bytes of the first three lines, of the longest statement, and of the longest text that is written.
+pub const FIRST_LENGTH: usize = 47;
+
+pub const LONGEST_STATEMENT: usize = 21;
+
+pub const LONGEST_TEXT: usize = FIRST_LENGTH + LONGEST_STATEMENT * gate::LARGEST_LIST;
+
 // The first three lines.
-pub const FIRST_LINES: [u8; 47] = *b"OPENQASM 2.0;\ninclude \"qelib1.inc\";\nqreg q[2];\n";
+pub const FIRST_LINES: [u8; FIRST_LENGTH] =
+    *b"OPENQASM 2.0;\ninclude \"qelib1.inc\";\nqreg q[2];\n";
 
 // The statements, in the order of the gates.
 pub const H_FIRST: [u8; 8] = *b"h q[0];\n";
@@ -27,10 +35,7 @@ pub const S_SECOND: [u8; 8] = *b"s q[1];\n";
 
 pub const CZ: [u8; 14] = *b"cz q[0],q[1];\n";
 
-pub const CS: [u8; 21] = *b"cu1(pi/2) q[0],q[1];\n";
-
-// The most bytes of a text that is written.
-pub const LONGEST_TEXT: usize = 47 + 21 * gate::LARGEST_LIST;
+pub const CS: [u8; LONGEST_STATEMENT] = *b"cu1(pi/2) q[0],q[1];\n";
 
 // How many bytes a statement has.
 fn statement_length(g: Gate) -> usize
@@ -66,7 +71,7 @@ fn text_length(letters: &[u8]) -> Wrote
     requires { ⌜ length (now letters) ≤ largestList ⌝ }
     ensures { λ r. ⌜ r ≡ size textOf (lettersOf (now (letters .entry))) ⌝ }
 {
-    let mut n = FIRST_LINES.len();
+    let mut n = FIRST_LENGTH;
     let mut i = letters.len();
     while 0 < i {
         i -= 1;
@@ -107,6 +112,8 @@ fn write_statements(letters: &[u8], out: &mut [u8], at: usize) -> usize
 }
 
 // A gate list into OpenQASM 2.0 text at the front of `out`.
+// Wrong, and refused: the letters in the list's own order; q[1] for the first qubit; a byte that is no letter left out; 7 at 8,192 letters; a
+// buffer that the text fills refused; the statements over the first lines.
 pub fn gates_to_qasm(letters: &[u8], out: &mut [u8]) -> Wrote
     ensures { λ r. ⌜ TextPromise (now (letters .entry)) (now (out .entry)) (now (out .exit)) r ⌝ }
 {

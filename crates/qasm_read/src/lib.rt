@@ -26,7 +26,7 @@ pub struct Statements {
 // The two-qubit statements with their qubits in the reverse order.
 const CZ_REVERSED: [u8; 14] = *b"cz q[1],q[0];\n";
 
-const CS_REVERSED: [u8; 21] = *b"cu1(pi/2) q[1],q[0];\n";
+const CS_REVERSED: [u8; qasm::LONGEST_STATEMENT] = *b"cu1(pi/2) q[1],q[0];\n";
 
 // The place after a line that stands at a place, or that place itself.
 pub fn after(text: &[u8], at: usize, line: &[u8]) -> usize
@@ -125,6 +125,8 @@ fn write_letters(text: &[u8], at: usize, count: usize, out: &mut [u8])
 }
 
 // OpenQASM 2.0 text into a gate list at the front of `out`.
+// Wrong, and refused: a last line with no line feed, or `cz q[0], q[1];`, taken; 7 before 23; other first lines read; the letters in the order of the
+// statements; 7 at 8,192 statements; a buffer that the letters fill refused.
 pub fn qasm_to_gates(text: &[u8], out: &mut [u8]) -> Wrote
     ensures { λ r. ⌜ LettersPromise (now (text .entry)) (now (out .entry)) (now (out .exit)) r ⌝ }
 {

@@ -38,16 +38,24 @@ pub record LeftOf (bs buffer : List ℕ) (r : ℕ) : Type 0 where
   pub earns : (rest : List ℕ) → behind (take r buffer ++ rest) ≡ behind (bs ++ rest)
   pub stops : 0 < r → NoStatement (take r buffer)
 
--- r is what is earned by the bytes bs and those that are read behind them
-pub record Earned (bs : List ℕ) (r : ℕ) : Type 0 where
-  pub more : List ℕ
-  pub earns : readQasm (bs ++ more) ≡ refusal r
+-- the bytes bs of a long text earn what the first `left` bytes of a buffer earn there, whatever follows; these begin with no statement
+pub record Waiting (bs buffer : List ℕ) (left : ℕ) : Type 0 where
+  pub inside : left ≤ length buffer
+  pub earns : (rest : List ℕ) → readQasm (bs ++ rest) ≡ behind (take left buffer ++ rest)
+  pub stops : 0 < left → NoStatement (take left buffer)
 
 -- 7, or 23 where bytes are left
 abbrev pub lastRefusal : ℕ → ℕ
 lastRefusal left = cond (eqb left 0) 7 23
 
--- the output for the bytes bs and those that are read behind them
+-- ---- with the bytes that a program reads on: these it alone knows
+
+-- r is what the bytes bs earn with them
+pub record Earned (bs : List ℕ) (r : ℕ) : Type 0 where
+  pub more : List ℕ
+  pub earns : readQasm (bs ++ more) ≡ refusal r
+
+-- the output for the bytes bs with them
 pub record OutputBehind (bs old new : List ℕ) (r : ℕ) : Type 0 where
   pub more : List ℕ
   pub output : Appended (outputOf (map letter) (readQasm (bs ++ more))) 0 old new r

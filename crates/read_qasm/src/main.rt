@@ -12,14 +12,11 @@ ghost use Rattle.qasm.specs.Reading.{readQasm};
 ghost use Rattle.qasm.specs.Output.{outputOf};
 ghost use Rattle.read_qasm.specs.Long.{longer, StartOf, LeftOf, Earned, lastRefusal, OutputBehind};
 
-// The bytes of the longest statement.
-const STATEMENT: usize = 21;
-
 // A text of so many bytes has more than 8,192 statements, or a line that is none.
-const LONGER: usize = qasm::LONGEST_TEXT + STATEMENT;
+const LONGER: usize = qasm::LONGEST_TEXT + qasm::LONGEST_STATEMENT;
 
 // Room for part of a statement and the bytes that are read at a time.
-const WINDOW: usize = STATEMENT + 65536;
+const WINDOW: usize = qasm::LONGEST_STATEMENT + 65536;
 
 // More turns than an input has parts of 65,536 bytes.
 const MOST_TURNS: u64 = 1 << 48;
@@ -115,7 +112,7 @@ fn read_on(text: &[u8]) -> u8
     let mut left = take_in(&text[start..], &mut buffer, 0);
     let mut turns = 0u64;
     while turns < MOST_TURNS {
-        if STATEMENT <= left {
+        if qasm::LONGEST_STATEMENT <= left {
             return 23;
         }
         let n = io::read_full(0, &mut more);
