@@ -12,7 +12,7 @@ ghost use Rattle.qasm.specs.Promise.{size, LettersPromise};
 ghost use Rattle.qasm_read.specs.Statements.{afterLine, readFrom, listIn, LineAt, StatementsFrom};
 
 // What stands at a place of a text: a statement, its gate and the place after it, or none.
-pub enum Line {
+enum Line {
     Statement(Gate, usize),
     Unknown,
 }
