@@ -1,6 +1,6 @@
 /*
- * The CS cutter: operators, sheets and gate lists, bundles of sheets, and the CS
- * states to order.
+ * The CS cutter: operators, sheets and gate lists, bundles of sheets, gate lists as
+ * OpenQASM 2.0 text, and the CS states to order.
  * Formats, numbers and the order of refusals are those of documents 01 and 02.
  *
  * Every call answers one 64-bit word:
@@ -9,9 +9,10 @@
  *   0 to 7    the refusal's number, 0 where there is none; with a refusal all
  *             other bits are 0
  *   8 to 31   the value: the count, the figure of states to order, the number of
- *             bytes written, or the place of a part's first byte
- *   32 to 47  the length: the letters written, or the length of a part; 0 unless a
- *             gate list was written or a part found
+ *             bytes written (a bundle, a text, or the letters of a text), or the
+ *             place of a part's first byte
+ *   32 to 47  the length: the letters that an operator was cut into, or the length
+ *             of a part; 0 unless an operator was cut into gates or a part found
  *   48 to 55  L: the cuts whose rows grouped as 2 and 4; 0 unless an operator was
  *             cut
  *   56 to 63  0
@@ -39,9 +40,10 @@ enum dimfrets_size {
     DIMFRETS_OPERATOR_BYTES = 73,   /* an operator file */
     DIMFRETS_MIN_SHEET = 8,         /* the sheet of a Clifford; each generator adds one */
     DIMFRETS_MAX_SHEET = 36,        /* the sheet of an operator of count 28 */
-    DIMFRETS_MAX_LETTERS = 8192,    /* the longest gate list that is read */
-    DIMFRETS_GATES_BUFFER = 7424,   /* holds any gate list: 256 * (28 + 1) */
-    DIMFRETS_BUNDLE_BUFFER = 19458  /* holds any bundle written: 512 * (36 + 2) + 2 */
+    DIMFRETS_MAX_LETTERS = 8192,    /* the longest gate list that is read, also from a text */
+    DIMFRETS_GATES_BUFFER = 7424,   /* holds the gate list of any operator: 256 * (28 + 1) */
+    DIMFRETS_BUNDLE_BUFFER = 19458, /* holds any bundle written: 512 * (36 + 2) + 2 */
+    DIMFRETS_QASM_BUFFER = 172079   /* holds any text written: 47 + 21 * 8192 */
 };
 
 /* Limits of counts, orders and bundles. */
@@ -60,11 +62,11 @@ enum dimfrets_refusal {
     DIMFRETS_NOT_ORTHOGONAL = 4,      /* not orthogonal */
     DIMFRETS_NOT_PROPER = 5,          /* orthogonal, not proper */
     /* The lender of an output buffer. */
-    DIMFRETS_BUFFER_TOO_SHORT = 6,    /* shorter than 256 * (t + 1) for a gate list, than the
-                                         sheet, than 73 bytes for an operator, or than the
-                                         bundle */
+    DIMFRETS_BUFFER_TOO_SHORT = 6,    /* shorter than 256 * (t + 1) for the gate list of an
+                                         operator, than the sheet, than 73 bytes for an operator,
+                                         than the bundle, than the text, or than its letters */
     /* The writer of a gate list. */
-    DIMFRETS_TOO_MANY_LETTERS = 7,    /* more than 8,192 letters */
+    DIMFRETS_TOO_MANY_LETTERS = 7,    /* more than 8,192 letters, or statements of a text */
     DIMFRETS_UNKNOWN_LETTER = 8,      /* a byte that is no letter of the table */
     DIMFRETS_BEGINNING_TOO_DEEP = 9,  /* a beginning whose product has a least exponent above 28 */
     /* The maker of a sheet. */
@@ -83,7 +85,11 @@ enum dimfrets_refusal {
                                          the sheets, or sheets that do not end where the trailer
                                          starts; bytes to bundle that are not sheets end to end */
     /* Whoever asks for a sheet. */
-    DIMFRETS_NO_SHEET = 22            /* no sheet n */
+    DIMFRETS_NO_SHEET = 22,           /* no sheet n */
+    /* The writer of a text. */
+    DIMFRETS_NO_STATEMENT = 23        /* a line that is no statement, one of the first three lines
+                                         missing, repeated or out of its place, or a last line
+                                         with no line feed */
 };
 
 /*
@@ -172,21 +178,59 @@ uint64_t dimfrets_bundle_sheet(const uint8_t *in, size_t in_len, uint64_t n);
 uint64_t dimfrets_sheets_to_bundle(const uint8_t *in, size_t in_len,
                                    uint8_t *out, size_t out_len);
 
+/*
+ * Writes a gate list as text.
+ * Reads a gate list at `in`; it may be empty. Writes its OpenQASM 2.0 text at `out`:
+ * the lines
+ *
+ *   OPENQASM 2.0;
+ *   include "qelib1.inc";
+ *   qreg q[2];
+ *
+ * and then a statement a line, in time order, from the last letter to the first:
+ *
+ *   H   h q[0];       S   s q[0];       Z   cz q[0],q[1];
+ *   h   h q[1];       s   s q[1];       C   cu1(pi/2) q[0],q[1];
+ *
+ * Each line ends in one line feed. Answers the number of bytes written, from 47 to
+ * 172,079. How deep the list goes is not looked at: there is no refusal 9.
+ * Refusals, the first that holds: 7, 8 (at any place), 6 (out_len below the number of
+ * bytes of the text).
+ */
+uint64_t dimfrets_gates_to_qasm(const uint8_t *in, size_t in_len,
+                                uint8_t *out, size_t out_len);
+
+/*
+ * Reads a gate list from its text.
+ * Reads at `in` a text as dimfrets_gates_to_qasm writes it, or with the qubits of a cz
+ * or a cu1(pi/2) in the other order. Writes the letters of its statements at `out`,
+ * that of the last statement first. Answers the number of bytes written, one for each
+ * statement; the first three lines alone are the empty list. A list that is written
+ * and read is the same list.
+ * Refusals, the first that holds: 23 (anywhere in the text: a line that is none of
+ * these, one of the first three lines missing, repeated or out of its place, or a last
+ * line with no line feed; also no text at all); 7 (more than 8,192 statements); 6
+ * (out_len below the number of statements).
+ */
+uint64_t dimfrets_qasm_to_gates(const uint8_t *in, size_t in_len,
+                                uint8_t *out, size_t out_len);
+
 /* Whether an answer is a refusal: 1 or 0. */
 static inline int dimfrets_is_refused(uint64_t answer)
 {
     return (answer & 0xFF) != 0;
 }
 
-/* The number of a refusal, 1 to 16 or 20 to 22; 0 if the answer is none. */
+/* The number of a refusal, 1 to 16 or 20 to 23; 0 if the answer is none. */
 static inline unsigned dimfrets_refusal_number(uint64_t answer)
 {
     return (unsigned)(answer & 0xFF);
 }
 
 /*
- * The count, the figure of states to order, the number of bytes written, or the place
- * of a part's first byte, counted from `in`; of an answer that is no refusal.
+ * The count, the figure of states to order, the number of bytes of a bundle, of a text
+ * or of the letters of a text, or the place of a part's first byte, counted from `in`;
+ * of an answer that is no refusal.
  */
 static inline unsigned dimfrets_value(uint64_t answer)
 {
@@ -194,8 +238,8 @@ static inline unsigned dimfrets_value(uint64_t answer)
 }
 
 /*
- * The number of letters written, or the length of a part; 0 unless a gate list was
- * written or a part found.
+ * The number of letters that an operator was cut into, or the length of a part; 0
+ * unless an operator was cut into gates or a part found.
  */
 static inline size_t dimfrets_length(uint64_t answer)
 {

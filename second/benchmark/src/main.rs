@@ -12,12 +12,12 @@ const COUNTS: [u8; 4] = [0, 7, 14, 28];
 const INPUTS: usize = 64;
 const ROUNDS: usize = 15;
 const ROUND_TIME: Duration = Duration::from_millis(15);
-const BUFFER: usize = dimfrets::BUNDLE_BUFFER;
+const BUFFER: usize = dimfrets::QASM_BUFFER;
 const SHEETS: usize = dimfrets::MAX_SHEETS;
 const LAST_SHEET: u64 = SHEETS as u64 - 1;
 
 // One buffer holds whatever a call writes.
-const _: () = assert!(BUFFER >= dimfrets::GATES_BUFFER);
+const _: () = assert!(BUFFER >= dimfrets::GATES_BUFFER && BUFFER >= dimfrets::BUNDLE_BUFFER);
 
 /// One run of a call; the number keeps it from being left out.
 type Run = fn(&[u8], &mut [u8]) -> u64;
@@ -30,7 +30,7 @@ struct Subject {
     plain: Run,
 }
 
-const SUBJECTS: [Subject; 7] = [
+const SUBJECTS: [Subject; 9] = [
     Subject {
         name: "operator_to_sheet",
         input: operator_file,
@@ -76,6 +76,18 @@ const SUBJECTS: [Subject; 7] = [
         input: sheets,
         dimfrets: |sheets, out| dimfrets::sheets_to_bundle(sheets, out).unwrap() as u64,
         plain: |sheets, out| plain::sheets_to_bundle(sheets, out).unwrap() as u64,
+    },
+    Subject {
+        name: "gates_to_qasm",
+        input: gate_list,
+        dimfrets: |list, out| dimfrets::gates_to_qasm(list, out).unwrap() as u64,
+        plain: |list, out| plain::gates_to_qasm(list, out).unwrap() as u64,
+    },
+    Subject {
+        name: "qasm_to_gates",
+        input: text,
+        dimfrets: |text, out| dimfrets::qasm_to_gates(text, out).unwrap() as u64,
+        plain: |text, out| plain::qasm_to_gates(text, out).unwrap() as u64,
     },
 ];
 
@@ -148,6 +160,11 @@ fn gate_list(random: &mut Random, count: u8) -> Vec<u8> {
     let (_, letters) = written.expect("an accepted operator");
     list.truncate(letters);
     list
+}
+
+/// The text of such a list.
+fn text(random: &mut Random, count: u8) -> Vec<u8> {
+    samples::Text::of(&gate_list(random, count)).bytes()
 }
 
 /// As many sheets of the count as a bundle holds, all of them the same.

@@ -17,6 +17,7 @@ const BUNDLES: usize = 30_000;
 const FAR_BUNDLES: usize = 500;
 const BUNDLES_PER_LENGTH: usize = 20;
 const LISTS: usize = 15_000;
+const OVERFULL_LISTS: usize = 800;
 
 /// A bundle of up to this many sheets, or a full one, is asked for all; another for about this many.
 const FEW: usize = 20;
@@ -59,6 +60,11 @@ pub fn run(judge: &mut Judge) {
     }
     for number in 0..=MAX_SHEETS {
         there_and_back(judge, &mut random, &store, number);
+    }
+    for _ in 0..OVERFULL_LISTS {
+        let number = MAX_SHEETS + 1 + random.below(FEW);
+        let sheets = drawn(&mut random, &store, number);
+        judge.run(Call::SheetsToBundle, &sheets.concat());
     }
 }
 

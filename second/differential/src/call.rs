@@ -1,12 +1,14 @@
-//! The seven calls and their answers, as numbers that both implementations share.
+//! The nine calls and their answers, as numbers that both implementations share.
 
 use std::panic::{catch_unwind, AssertUnwindSafe};
 
 use dimfrets::Refusal;
 
-// Buffers of the wrapper's sizes hold the longest sheet and the longest bundle, and have no byte more.
+// Buffers of the wrapper's sizes hold the longest sheet, the longest bundle and the longest text, and
+// have no byte more.
 const _: () = assert!(dimfrets::MAX_SHEET == plain::sheet::MAX_SHEET);
 const _: () = assert!(dimfrets::BUNDLE_BUFFER == plain::bundle::MAX_BUNDLE);
+const _: () = assert!(dimfrets::QASM_BUFFER == plain::qasm::MAX_TEXT);
 
 /// A call of the interface.
 #[derive(Clone, Copy, Debug, PartialEq, Eq)]
@@ -18,10 +20,12 @@ pub enum Call {
     StatesToOrder,
     BundleSheet,
     SheetsToBundle,
+    GatesToQasm,
+    QasmToGates,
 }
 
 /// All calls, in the order of their discriminants.
-pub const CALLS: [Call; 7] = [
+pub const CALLS: [Call; 9] = [
     Call::OperatorToSheet,
     Call::OperatorToGates,
     Call::GatesToOperator,
@@ -29,6 +33,8 @@ pub const CALLS: [Call; 7] = [
     Call::StatesToOrder,
     Call::BundleSheet,
     Call::SheetsToBundle,
+    Call::GatesToQasm,
+    Call::QasmToGates,
 ];
 
 /// What a call answered.
@@ -84,6 +90,22 @@ impl Call {
             Call::StatesToOrder => "states_to_order",
             Call::BundleSheet => "bundle_sheet",
             Call::SheetsToBundle => "sheets_to_bundle",
+            Call::GatesToQasm => "gates_to_qasm",
+            Call::QasmToGates => "qasm_to_gates",
+        }
+    }
+
+    /// The refusals that the call can answer, in the order in which they are looked for.
+    pub fn refusals(self) -> &'static [u8] {
+        match self {
+            Call::OperatorToSheet | Call::OperatorToGates => &[1, 2, 3, 4, 5, 6],
+            Call::GatesToOperator => &[7, 8, 9, 6],
+            Call::SheetToOperator => &[10, 16, 11, 12, 15, 13, 6],
+            Call::StatesToOrder => &[14],
+            Call::BundleSheet => &[20, 21, 22],
+            Call::SheetsToBundle => &[20, 21, 6],
+            Call::GatesToQasm => &[7, 8, 6],
+            Call::QasmToGates => &[23, 7, 6],
         }
     }
 
@@ -108,9 +130,9 @@ impl Call {
                 let part = dimfrets::bundle_sheet(bundle, word(input, 0));
                 of_part(bundle, part.map_err(Refusal::number))
             }
-            Call::SheetsToBundle => {
-                of_written(dimfrets::sheets_to_bundle(input, out).map_err(Refusal::number))
-            }
+            Call::SheetsToBundle => of_bytes(dimfrets::sheets_to_bundle(input, out)),
+            Call::GatesToQasm => of_bytes(dimfrets::gates_to_qasm(input, out)),
+            Call::QasmToGates => of_bytes(dimfrets::qasm_to_gates(input, out)),
         };
         catch_unwind(AssertUnwindSafe(call)).unwrap_or(Answer::Unknown)
     }
@@ -136,6 +158,8 @@ impl Call {
                 of_part(bundle, plain::bundle_sheet(bundle, word(input, 0)))
             }
             Call::SheetsToBundle => of_written(plain::sheets_to_bundle(input, out)),
+            Call::GatesToQasm => of_written(plain::gates_to_qasm(input, out)),
+            Call::QasmToGates => of_written(plain::qasm_to_gates(input, out)),
         }
     }
 }
@@ -177,6 +201,10 @@ fn of_cuts(count: u8, letters: usize, loose: u8) -> Answer {
         letters,
         loose,
     }
+}
+
+fn of_bytes(answer: Result<usize, Refusal>) -> Answer {
+    of_written(answer.map_err(Refusal::number))
 }
 
 fn of_written(answer: Result<usize, u8>) -> Answer {

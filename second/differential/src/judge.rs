@@ -4,9 +4,10 @@
 use plain::bundle::MAX_BUNDLE;
 use plain::gate::{image, LETTERS_PER_COUNT};
 use plain::operator::{Operator, OPERATOR_BYTES};
+use plain::qasm::{self, MAX_STATEMENT};
 use plain::refusal::NO_SHEET;
 use plain::sheet::{MAX_SHEET, MIN_SHEET};
-use samples::Random;
+use samples::{Random, Text, FIRST_LINES};
 
 use crate::call::{self, Answer, Call};
 use crate::lent::Lent;
@@ -69,6 +70,9 @@ impl Judge {
         if let Some(bundle) = case.bundle() {
             self.tally.add_bundle(call, tested, bundle);
         }
+        if let Some((_, text)) = case.list_and_text() {
+            self.tally.add_text(call, text);
+        }
         (tested, case.output().to_vec())
     }
 
@@ -87,6 +91,17 @@ impl Judge {
             Call::SheetsToBundle => {
                 let written = plain::sheets_to_bundle(input, &mut [0; MAX_BUNDLE]);
                 written.unwrap_or_else(|_| self.random.below(MAX_BUNDLE))
+            }
+            Call::GatesToQasm => match qasm::of_list(input) {
+                Ok(text) => text.len(),
+                Err(_) => {
+                    let lines = FIRST_LINES.len() + input.len();
+                    self.random.below(MAX_STATEMENT * lines)
+                }
+            },
+            Call::QasmToGates => {
+                let lines = input.iter().filter(|&&byte| byte == b'\n').count();
+                lines.saturating_sub(FIRST_LINES.len())
             }
         }
     }
@@ -117,6 +132,9 @@ impl Case<'_> {
             }
             _ => self.demand(tested_out.same(plain_out), "the output differs"),
         }
+        if let Some((list, text)) = self.list_and_text() {
+            self.check_text(list, text);
+        }
     }
 
     /// The written gate list keeps its promises and multiplies to the operator.
@@ -140,13 +158,23 @@ impl Case<'_> {
         );
     }
 
+    /// The text is read as the list, and the list is written as the text but for the order of qubits.
+    fn check_text(&self, list: &[u8], text: &[u8]) {
+        let read = qasm::read(text);
+        let is_read = read.as_deref() == Ok(list);
+        self.demand(is_read, "the text is not read as the list");
+        let in_order = String::from_utf8_lossy(text).replace("q[1],q[0]", "q[0],q[1]");
+        let is_written = Text::of(list).bytes() == in_order.as_bytes();
+        self.demand(is_written, "the text is not the one of the list");
+    }
+
     /// The number of bytes that a call with this answer writes.
     fn written(&self, answer: Answer) -> usize {
         match (self.call, answer) {
             (Call::OperatorToSheet, Answer::Count { count, .. }) => count as usize + MIN_SHEET,
             (Call::OperatorToGates, Answer::Count { letters, .. }) => letters,
             (Call::GatesToOperator | Call::SheetToOperator, Answer::Count { .. }) => OPERATOR_BYTES,
-            (Call::SheetsToBundle, Answer::Written(bytes)) => bytes,
+            (_, Answer::Written(bytes)) => bytes,
             _ => 0,
         }
     }
@@ -169,9 +197,20 @@ impl Case<'_> {
 
     /// The bundle that was written or read, if one was; it was also read where it has no sheet n.
     fn bundle(&self) -> Option<&[u8]> {
-        match self.tested.0 {
-            Answer::Written(_) => Some(self.output()),
-            Answer::Part { .. } | Answer::Refused(NO_SHEET) => Some(call::bundle(self.input)),
+        match (self.call, self.tested.0) {
+            (Call::SheetsToBundle, Answer::Written(_)) => Some(self.output()),
+            (Call::BundleSheet, Answer::Part { .. } | Answer::Refused(NO_SHEET)) => {
+                Some(call::bundle(self.input))
+            }
+            _ => None,
+        }
+    }
+
+    /// The list and the text of which one was read and the other written, if they were.
+    fn list_and_text(&self) -> Option<(&[u8], &[u8])> {
+        match (self.call, self.tested.0) {
+            (Call::GatesToQasm, Answer::Written(_)) => Some((self.input, self.output())),
+            (Call::QasmToGates, Answer::Written(_)) => Some((self.output(), self.input)),
             _ => None,
         }
     }

@@ -1,5 +1,5 @@
-//! Gate lists: of every count, at and around the limits of length and depth, with unknown bytes
-//! before, at and after the place where a beginning grows too deep.
+//! Gate lists for the two calls that read them: of every count, at and around the limits of length and
+//! depth, with unknown bytes before, at and after the place where a beginning grows too deep.
 
 use plain::gate::{image, CLIFFORD_LETTERS, MAX_LETTERS};
 use plain::operator::MAX_EXPONENT;
@@ -11,6 +11,9 @@ use crate::judge::Judge;
 const SHORT_LISTS: usize = 50_000;
 const LONG_LISTS: usize = 1_000;
 const OVERLONG_LISTS: usize = 2_500;
+
+/// Of so many long lists one is written as text.
+const LONG_LISTS_PER_TEXT: usize = 8;
 
 /// Bytes beside the letters, in value or in looks.
 const NEAR_LETTERS: [u8; 20] = *b"BDGIRTYXcz[girt\n \0\x80\xff";
@@ -31,25 +34,33 @@ const SHORT: [fn(&mut Random) -> Vec<u8>; 9] = [
 /// Makers of lists of thousands of letters.
 const LONG: [fn(&mut Random) -> Vec<u8>; 3] = [long_cliffords, there_and_back, long_then_too_deep];
 
-/// Runs the call that reads gate lists.
+/// Runs both calls that read gate lists.
 pub fn run(judge: &mut Judge) {
     let mut random = Random::new(3);
     for _ in 0..SHORT_LISTS {
         let list = random.pick(&SHORT)(&mut random);
-        judge.run(Call::GatesToOperator, &list);
+        multiply_and_write(judge, &list);
     }
-    for _ in 0..LONG_LISTS {
+    for number in 0..LONG_LISTS {
         let list = random.pick(&LONG)(&mut random);
         judge.run(Call::GatesToOperator, &list);
+        if number % LONG_LISTS_PER_TEXT == 0 {
+            judge.run(Call::GatesToQasm, &list);
+        }
     }
     for _ in 0..OVERLONG_LISTS {
-        judge.run(Call::GatesToOperator, &overlong(&mut random));
+        multiply_and_write(judge, &overlong(&mut random));
     }
+}
+
+fn multiply_and_write(judge: &mut Judge, list: &[u8]) {
+    judge.run(Call::GatesToOperator, list);
+    judge.run(Call::GatesToQasm, list);
 }
 
 fn few_letters(random: &mut Random) -> Vec<u8> {
     let len = random.below(40);
-    (0..len).map(|_| *random.pick(&LETTERS)).collect()
+    samples::letters(random, len)
 }
 
 fn few_letters_with_unknown(random: &mut Random) -> Vec<u8> {

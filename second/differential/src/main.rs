@@ -5,6 +5,7 @@
 
 mod bundles;
 mod call;
+mod damages;
 mod judge;
 mod lent;
 mod lists;
@@ -12,6 +13,7 @@ mod operators;
 mod orders;
 mod sheets;
 mod tally;
+mod texts;
 mod trials;
 
 use std::process::ExitCode;
@@ -26,6 +28,7 @@ fn main() -> ExitCode {
     sheets::run(&mut judge);
     orders::run(&mut judge);
     bundles::run(&mut judge);
+    texts::run(&mut judge);
     judge.tally.print();
     let gaps = judge.tally.gaps();
     for gap in &gaps {

@@ -11,6 +11,7 @@ use plain::sheet::{ABOVE_LENGTH, MINUS, MIN_SHEET};
 use samples::Random;
 
 use crate::call::Call;
+use crate::damages::{flip_bit, Damage};
 use crate::judge::Judge;
 
 const INPUTS: usize = 60_000;
@@ -21,8 +22,6 @@ const BAD_GENERATORS: [u8; 8] = [0, 16, 17, 127, 128, 129, 143, 255];
 const BAD_COLUMNS: [u8; 8] = [0, 7, 8, 127, 128, 135, 136, 255];
 const BAD_LAST_BYTES: [u8; 8] = [2, 3, 4, 127, 128, 129, 254, 255];
 const OTHER_FIRST_BYTES: [usize; 8] = [0, 1, 15, 63, 64, 92, 93, 255];
-
-type Damage = fn(&mut Random, &mut Vec<u8>);
 
 const DAMAGES: [Damage; 33] = [
     bad_generator,
@@ -364,13 +363,6 @@ fn wrong_count_and_more(random: &mut Random, sheet: &mut Vec<u8>) {
     random.pick(&WRONG_COUNTS)(random, sheet);
     let later = random.pick(&LATER);
     random.pick(later)(random, sheet);
-}
-
-fn flip_bit(random: &mut Random, sheet: &mut Vec<u8>) {
-    if !sheet.is_empty() {
-        let place = random.below(sheet.len());
-        sheet[place] ^= 1 << random.below(8);
-    }
 }
 
 /// Random bytes, behind the right first byte or a random one too.

@@ -1,14 +1,19 @@
-//! How often each call ran, each refusal came, and each count, or figure of states, each L, each last
-//! byte of a sheet, each number of sheets in a bundle, and each length and position of a part of one
-//! was seen.
+//! How often each call ran, each refusal of each call came, and each count, or figure of states, each
+//! L, each last byte of a sheet, each number of sheets in a bundle, each length and position of a part
+//! of one, each statement of a text, and each number of few or of most statements was seen.
+
+mod texts;
 
 use std::fmt::Display;
 
 use dimfrets::Refusal;
 use plain::bundle::{MAX_PART, MAX_SHEETS, NUMBER_BYTES};
 use plain::sheet::MIN_SHEET;
+use samples::{LETTERS, STATEMENTS};
 
 use crate::call::{Answer, Call, CALLS};
+
+use texts::Texts;
 
 const REFUSALS: usize = 256;
 const COUNTS: usize = 29;
@@ -38,32 +43,40 @@ const SHEET_CALLS: [Call; 2] = [Call::OperatorToSheet, Call::SheetToOperator];
 /// The calls that write or read bundles.
 const BUNDLE_CALLS: [Call; 2] = [Call::BundleSheet, Call::SheetsToBundle];
 
+/// The calls that write or read texts, and how many of the statements each knows.
+const TEXT_CALLS: [(Call, usize); 2] = [
+    (Call::GatesToQasm, LETTERS.len()),
+    (Call::QasmToGates, STATEMENTS.len()),
+];
+
 /// Where a part stands among the sheets of its bundle.
 const POSITIONS: [&str; 4] = ["between others", "first", "last", "alone"];
 
 /// The tally of all calls.
 pub struct Tally {
     inputs: [u64; CALLS.len()],
-    refusals: [u64; REFUSALS],
+    refusals: [[u64; REFUSALS]; CALLS.len()],
     counts: [Vec<u64>; CALLS.len()],
     loose: [[u64; LOOSE]; CALLS.len()],
     last_bytes: [[u64; LAST_BYTES]; CALLS.len()],
     sheets: [[u64; NUMBERS_OF_SHEETS]; CALLS.len()],
     part_lengths: [u64; PART_LENGTHS],
     positions: [u64; POSITIONS.len()],
+    texts: [Texts; CALLS.len()],
 }
 
 impl Tally {
     pub fn new() -> Tally {
         Tally {
             inputs: [0; CALLS.len()],
-            refusals: [0; REFUSALS],
+            refusals: [[0; REFUSALS]; CALLS.len()],
             counts: CALLS.map(|call| vec![0; counts(call)]),
             loose: [[0; LOOSE]; CALLS.len()],
             last_bytes: [[0; LAST_BYTES]; CALLS.len()],
             sheets: [[0; NUMBERS_OF_SHEETS]; CALLS.len()],
             part_lengths: [0; PART_LENGTHS],
             positions: [0; POSITIONS.len()],
+            texts: CALLS.map(|_| Texts::new()),
         }
     }
 
@@ -71,7 +84,7 @@ impl Tally {
     pub fn add(&mut self, call: Call, answer: Answer, last_byte: Option<u8>) {
         self.inputs[call as usize] += 1;
         match answer {
-            Answer::Refused(number) => self.refusals[usize::from(number)] += 1,
+            Answer::Refused(number) => self.refusals[call as usize][usize::from(number)] += 1,
             Answer::Count { count, loose, .. } => {
                 self.counts[call as usize][count as usize] += 1;
                 self.loose[call as usize][usize::from(loose)] += 1;
@@ -96,15 +109,25 @@ impl Tally {
         }
     }
 
-    /// Prints a line for each call, one for the refusals, one for the counts of each call that answers
-    /// them, one for the L of each call that cuts, one for the last bytes of each call with sheets, one
-    /// for the numbers of sheets of each call with bundles, and two for the parts.
+    /// Counts a text that was written or read.
+    pub fn add_text(&mut self, call: Call, text: &[u8]) {
+        self.texts[call as usize].add(text);
+    }
+
+    /// Prints a line for each call, one for all refusals and one for those of each call, one for the
+    /// counts of each call that answers them, one for the L of each call that cuts, one for the last
+    /// bytes of each call with sheets, one for the numbers of sheets of each call with bundles, two for
+    /// the parts, and three for each call with texts.
     pub fn print(&self) {
         for (call, inputs) in CALLS.iter().zip(self.inputs) {
             println!("{}: {inputs} inputs", call.name());
         }
         println!("inputs in all: {}", self.inputs.iter().sum::<u64>());
         println!("refusals:{}", listed(self.refusals()));
+        for call in CALLS {
+            let times = listed(self.refusals_of(call));
+            println!("refusals of {}:{times}", call.name());
+        }
         for call in COUNTING_CALLS {
             let times = numbered(&self.counts[call as usize]);
             println!("counts of {}:{times}", call.name());
@@ -128,6 +151,9 @@ impl Tally {
         println!("lengths of parts: {MIN_SHEET} to {MAX_PART}, each at least {least} times");
         let times = POSITIONS.into_iter().zip(self.positions);
         println!("positions of parts:{}", listed(times));
+        for (call, known) in TEXT_CALLS {
+            self.texts[call as usize].print(call, known);
+        }
     }
 
     /// What was seen too seldom.
@@ -139,6 +165,13 @@ impl Tally {
         for (number, times) in self.refusals() {
             if times < LEAST_PER_REFUSAL {
                 gaps.push(format!("refusal {number}"));
+            }
+        }
+        for call in CALLS {
+            for (number, times) in self.refusals_of(call) {
+                if times < LEAST_PER_REFUSAL {
+                    gaps.push(format!("refusal {number} of {}", call.name()));
+                }
             }
         }
         for call in COUNTING_CALLS {
@@ -164,13 +197,24 @@ impl Tally {
                 gaps.push(format!("parts {position}"));
             }
         }
+        for (call, known) in TEXT_CALLS {
+            gaps.extend(self.texts[call as usize].gaps(call, known));
+        }
         gaps
     }
 
     /// The number of each refusal, and how often it came.
     fn refusals(&self) -> impl Iterator<Item = (u8, u64)> + '_ {
         let numbers = Refusal::ALL.into_iter().map(Refusal::number);
-        numbers.map(|number| (number, self.refusals[usize::from(number)]))
+        let times = |number| self.refusals.iter().map(|times| times[number]).sum();
+        numbers.map(move |number| (number, times(usize::from(number))))
+    }
+
+    /// The number of each refusal that a call can answer, and how often it came.
+    fn refusals_of(&self, call: Call) -> impl Iterator<Item = (u8, u64)> + '_ {
+        let times = &self.refusals[call as usize];
+        let numbers = call.refusals().iter();
+        numbers.map(|&number| (number, times[usize::from(number)]))
     }
 }
 

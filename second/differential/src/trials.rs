@@ -1,14 +1,15 @@
 //! The cases of document 01, "Trial cuts", with the first byte of document 02, P4, the last byte of P2
-//! and the L of P3, the example of `cut`, the orders of document 02, P1, and small bundles of P7, on
-//! both implementations.
+//! and the L of P3, the example of `cut`, the orders of document 02, P1, small bundles of P7 and small
+//! texts of P8, on both implementations.
 
 use std::fmt::Debug;
 
 use plain::gate::LETTERS_PER_COUNT;
 use plain::matrix::{scale, Matrix, IDENTITY};
 use plain::operator::{Operator, OPERATOR_BYTES};
-use plain::refusal::BUNDLE_SHEETS;
+use plain::refusal::{BUNDLE_SHEETS, NO_STATEMENT};
 use plain::sheet::MIN_SHEET;
+use samples::Text;
 
 use crate::call::{order, question, Answer, Call};
 use crate::judge::Judge;
@@ -94,6 +95,17 @@ const NO_SHEETS: [&[u8]; 4] = [
     &[64, 1, 2, 3, 4, 5, 6, 0, 64],
 ];
 
+/// Lists, and the statements of their texts.
+const TEXTS: [(&[u8], &[&str]); 4] = [
+    (b"", &[]),
+    (b"C", &["cu1(pi/2) q[0],q[1];"]),
+    (b"CHs", &["s q[1];", "h q[0];", "cu1(pi/2) q[0],q[1];"]),
+    (b"ZSh", &["h q[1];", "s q[0];", "cz q[0],q[1];"]),
+];
+
+/// A list, and its statements with the qubits in the reverse order.
+const REVERSED: (&[u8], &[&str]) = (b"CZ", &["cz q[1],q[0];", "cu1(pi/2) q[1],q[0];"]);
+
 /// Runs all trial cuts.
 pub fn run(judge: &mut Judge) {
     accepted_operators(judge);
@@ -103,6 +115,7 @@ pub fn run(judge: &mut Judge) {
     orders(judge);
     bundles(judge);
     refused_bundles(judge);
+    texts(judge);
 }
 
 fn accepted_operators(judge: &mut Judge) {
@@ -191,6 +204,23 @@ fn refused_bundles(judge: &mut Judge) {
     for bytes in NO_SHEETS {
         let answer = Answer::Refused(BUNDLE_SHEETS);
         expect(judge, Call::SheetsToBundle, bytes, answer, &[]);
+    }
+}
+
+fn texts(judge: &mut Judge) {
+    for (list, statements) in TEXTS {
+        let text = Text::with(statements.iter().copied()).bytes();
+        let answer = Answer::Written(text.len());
+        expect(judge, Call::GatesToQasm, list, answer, &text);
+    }
+    for (list, statements) in TEXTS.into_iter().chain([REVERSED]) {
+        let text = Text::with(statements.iter().copied()).bytes();
+        let answer = Answer::Written(list.len());
+        expect(judge, Call::QasmToGates, &text, answer, list);
+        let answer = Answer::Refused(NO_STATEMENT);
+        expect(judge, Call::QasmToGates, &text[1..], answer, &[]);
+        let unended = &text[..text.len() - 1];
+        expect(judge, Call::QasmToGates, unended, answer, &[]);
     }
 }
 

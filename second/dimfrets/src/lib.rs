@@ -52,6 +52,28 @@
 //! assert_eq!(dimfrets::sheet_to_operator(sheet, &mut file), Ok(2));
 //! # Ok::<(), dimfrets::Refusal>(())
 //! ```
+//!
+//! A gate list as OpenQASM 2.0 text, which runs in time order: its first statement is the last letter.
+//!
+//! ```
+//! let mut out = vec![0; dimfrets::QASM_BUFFER];
+//! let written = dimfrets::gates_to_qasm(b"CHs", &mut out)?;
+//! let lines = [
+//!     "OPENQASM 2.0;",
+//!     "include \"qelib1.inc\";",
+//!     "qreg q[2];",
+//!     "s q[1];",
+//!     "h q[0];",
+//!     "cu1(pi/2) q[0],q[1];",
+//!     "",
+//! ];
+//! assert_eq!(out[..written], *lines.join("\n").as_bytes());
+//!
+//! let mut list = [0; 3];
+//! dimfrets::qasm_to_gates(&out[..written], &mut list)?;
+//! assert_eq!(&list, b"CHs");
+//! # Ok::<(), dimfrets::Refusal>(())
+//! ```
 
 #![deny(unsafe_op_in_unsafe_fn)]
 
@@ -63,15 +85,18 @@ pub use refusal::Refusal;
 pub const OPERATOR_BYTES: usize = 73;
 /// The length of the longest sheet.
 pub const MAX_SHEET: usize = 36;
-/// The length of the longest gate list that is read.
+/// The length of the longest gate list that is read, also from a text.
 pub const MAX_LETTERS: usize = 8192;
-/// The length of a buffer that holds any gate list written.
+/// The length of a buffer that holds the gate list of any operator.
 pub const GATES_BUFFER: usize = 256 * 29;
 /// The most sheets of a bundle.
 pub const MAX_SHEETS: usize = 512;
 /// The length of a buffer that holds any bundle written: for each sheet its bytes and two of its
 /// offset, and two of the number of sheets.
 pub const BUNDLE_BUFFER: usize = MAX_SHEETS * (MAX_SHEET + 2) + 2;
+/// The length of a buffer that holds any text written: its first three lines, and the statement of C for
+/// each letter.
+pub const QASM_BUFFER: usize = 47 + 21 * MAX_LETTERS;
 
 /// What a written sheet has: its count, and L, the number of cuts whose rows grouped as 2 and 4.
 #[derive(Clone, Copy, Debug, PartialEq, Eq)]
@@ -100,6 +125,8 @@ extern "C" {
     fn dimfrets_states_to_order(t: u64, p: u64) -> u64;
     fn dimfrets_bundle_sheet(i: *const u8, i_len: usize, n: u64) -> u64;
     fn dimfrets_sheets_to_bundle(i: *const u8, i_len: usize, o: *mut u8, o_len: usize) -> u64;
+    fn dimfrets_gates_to_qasm(i: *const u8, i_len: usize, o: *mut u8, o_len: usize) -> u64;
+    fn dimfrets_qasm_to_gates(i: *const u8, i_len: usize, o: *mut u8, o_len: usize) -> u64;
 }
 
 /// Cuts an operator file into its sheet and answers the count t and L, which is below t, or 0 where t
@@ -170,6 +197,27 @@ pub fn sheets_to_bundle(sheets: &[u8], out: &mut [u8]) -> Result<usize, Refusal>
     bytes_written(run(dimfrets_sheets_to_bundle, sheets, out))
 }
 
+/// Writes a gate list as OpenQASM 2.0 text, and answers its number of bytes. The text has the lines
+/// `OPENQASM 2.0;`, `include "qelib1.inc";` and `qreg q[2];`, then a statement a line, from the last
+/// letter to the first: `h` and `s` on `q[0]` for H and S, on `q[1]` for h and s, and on `q[0],q[1]`
+/// `cz` for Z and `cu1(pi/2)` for C. How deep the list goes is not looked at.
+///
+/// Refuses with [`Refusal::TooManyLetters`], [`Refusal::UnknownLetter`] or
+/// [`Refusal::BufferTooShort`], in this order.
+pub fn gates_to_qasm(list: &[u8], out: &mut [u8]) -> Result<usize, Refusal> {
+    bytes_written(run(dimfrets_gates_to_qasm, list, out))
+}
+
+/// Reads a text that [`gates_to_qasm`] writes, or one with the two qubits of a statement in the other
+/// order, writes its letters, and answers how many there are: one for each statement, that of the last
+/// statement first.
+///
+/// Refuses with [`Refusal::NoStatement`], wherever in the text it is earned, then with
+/// [`Refusal::TooManyLetters`], then with [`Refusal::BufferTooShort`].
+pub fn qasm_to_gates(text: &[u8], out: &mut [u8]) -> Result<usize, Refusal> {
+    bytes_written(run(dimfrets_qasm_to_gates, text, out))
+}
+
 /// Lends both slices to a call. An empty slice is lent as an existing byte with the length 0, for
 /// its own pointer may point nowhere.
 fn run(call: Call, input: &[u8], out: &mut [u8]) -> u64 {
@@ -201,7 +249,7 @@ impl Parts {
     fn without_length(self) -> Parts {
         assert_eq!(
             self.length, 0,
-            "only a gate list or a part of a bundle has a length"
+            "only an operator cut into gates or a part of a bundle has a length"
         );
         self
     }
@@ -275,6 +323,9 @@ fn byte(value: u32) -> u8 {
 mod tests {
     use super::*;
 
+    /// The first three lines of a text.
+    const FIRST_LINES: &str = "OPENQASM 2.0;\ninclude \"qelib1.inc\";\nqreg q[2];\n";
+
     #[test]
     fn an_answer_is_taken_apart() {
         let written = Letters {
@@ -302,6 +353,7 @@ mod tests {
         assert_eq!(count(16), Err(Refusal::SheetCount));
         assert_eq!(bytes_written(0xFF_FFFF << 8), Ok(0xFF_FFFF));
         assert_eq!(bytes_written(20), Err(Refusal::BundleTrailer));
+        assert_eq!(bytes_written(23), Err(Refusal::NoStatement));
         assert_eq!(part_of(&[7, 8, 9], 2 << 32 | 1 << 8), Ok(&[8, 9][..]));
         assert_eq!(part_of(&[7, 8, 9], 21), Err(Refusal::BundleSheets));
         assert_eq!(part_of(&[], 22), Err(Refusal::NoSheet));
@@ -386,19 +438,19 @@ mod tests {
     }
 
     #[test]
-    #[should_panic(expected = "only a gate list")]
+    #[should_panic(expected = "has a length")]
     fn a_sheet_has_no_length() {
         let _ = cuts(1 << 32 | 28 << 8);
     }
 
     #[test]
-    #[should_panic(expected = "only a gate list")]
+    #[should_panic(expected = "has a length")]
     fn a_count_has_no_length() {
         let _ = count(1 << 32 | 28 << 8);
     }
 
     #[test]
-    #[should_panic(expected = "only a gate list")]
+    #[should_panic(expected = "has a length")]
     fn a_bundle_has_no_length() {
         let _ = bytes_written(1 << 32 | 2 << 8);
     }
@@ -508,6 +560,69 @@ mod tests {
     }
 
     #[test]
+    fn a_list_is_read_from_its_text() {
+        let statements = [
+            "cz q[0],q[1];\n",
+            "h q[1];\n",
+            "h q[0];\n",
+            "s q[1];\n",
+            "s q[0];\n",
+            "cu1(pi/2) q[0],q[1];\n",
+        ];
+        let text = [FIRST_LINES, &statements.concat()].concat();
+        let mut out = [9; 120];
+        assert_eq!(gates_to_qasm(b"CSsHhZ", &mut out), Ok(text.len()));
+        assert_eq!(out[..text.len()], *text.as_bytes());
+        assert!(out[text.len()..].iter().all(|&byte| byte == 9));
+        for text in [&text, &text.replace("q[0],q[1]", "q[1],q[0]")] {
+            let mut list = [9; 7];
+            assert_eq!(qasm_to_gates(text.as_bytes(), &mut list), Ok(6));
+            assert_eq!(&list, b"CSsHhZ\x09");
+        }
+    }
+
+    #[test]
+    fn a_refused_list_is_not_written() {
+        let mut out = vec![9; QASM_BUFFER];
+        let refusals = [
+            (vec![b'x'; MAX_LETTERS + 1], Refusal::TooManyLetters),
+            (b"CHx".to_vec(), Refusal::UnknownLetter),
+        ];
+        for (list, refusal) in refusals {
+            assert_eq!(gates_to_qasm(&list, &mut out), Err(refusal));
+        }
+        let short = &mut out[..54];
+        assert_eq!(gates_to_qasm(b"H", short), Err(Refusal::BufferTooShort));
+        assert!(out.iter().all(|&byte| byte == 9));
+    }
+
+    #[test]
+    fn a_refused_text_is_not_read() {
+        let full = "h q[0];\n".repeat(MAX_LETTERS);
+        let mut out = [9; MAX_LETTERS];
+        let mut read = |statements: &str, out_len: usize| {
+            let text = [FIRST_LINES, &full, statements].concat();
+            qasm_to_gates(text.as_bytes(), &mut out[..out_len])
+        };
+        for end in ["H q[0];\n", "h q[0];", "\n", "s q[1];\n\n", FIRST_LINES] {
+            assert_eq!(read(end, MAX_LETTERS), Err(Refusal::NoStatement));
+        }
+        assert_eq!(read("s q[1];\n", 0), Err(Refusal::TooManyLetters));
+        assert_eq!(read("", MAX_LETTERS - 1), Err(Refusal::BufferTooShort));
+        assert_eq!(out, [9; MAX_LETTERS]);
+    }
+
+    #[test]
+    fn the_longest_text_fills_its_buffer() {
+        let mut text = vec![9; QASM_BUFFER];
+        let written = gates_to_qasm(&[b'C'; MAX_LETTERS], &mut text);
+        assert_eq!(written, Ok(QASM_BUFFER));
+        let mut list = [9; MAX_LETTERS];
+        assert_eq!(qasm_to_gates(&text, &mut list), Ok(MAX_LETTERS));
+        assert_eq!(list, [b'C'; MAX_LETTERS]);
+    }
+
+    #[test]
     fn empty_slices_are_lent() {
         assert_eq!(operator_to_sheet(&[], &mut []), Err(Refusal::FileLength));
         assert_eq!(operator_to_gates(&[], &mut []), Err(Refusal::FileLength));
@@ -524,5 +639,8 @@ mod tests {
         assert_eq!(sheets_to_bundle(&[], &mut out), Ok(2));
         assert_eq!(out, [0, 0, 9]);
         assert_eq!(bundle_sheet(&out[..2], 0), Err(Refusal::NoSheet));
+        assert_eq!(gates_to_qasm(&[], &mut []), Err(Refusal::BufferTooShort));
+        assert_eq!(qasm_to_gates(&[], &mut []), Err(Refusal::NoStatement));
+        assert_eq!(qasm_to_gates(FIRST_LINES.as_bytes(), &mut []), Ok(0));
     }
 }

@@ -25,11 +25,12 @@ pub enum Refusal {
     BundleTrailer = 20,
     BundleSheets = 21,
     NoSheet = 22,
+    NoStatement = 23,
 }
 
 impl Refusal {
     /// All refusals, in the order of their numbers.
-    pub const ALL: [Refusal; 19] = [
+    pub const ALL: [Refusal; 20] = [
         Refusal::FileLength,
         Refusal::ExponentTooLarge,
         Refusal::EntryTooLarge,
@@ -49,14 +50,15 @@ impl Refusal {
         Refusal::BundleTrailer,
         Refusal::BundleSheets,
         Refusal::NoSheet,
+        Refusal::NoStatement,
     ];
 
-    /// The number in documents 01 and 02, 1 to 16 or 20 to 22.
+    /// The number in documents 01 and 02, 1 to 16 or 20 to 23.
     pub fn number(self) -> u8 {
         self as u8
     }
 
-    /// The refusal with a number of 1 to 16 or 20 to 22.
+    /// The refusal with a number of 1 to 16 or 20 to 23.
     pub fn from_number(number: u8) -> Option<Refusal> {
         let mut all = Refusal::ALL.into_iter();
         all.find(|refusal| refusal.number() == number)
@@ -70,7 +72,9 @@ impl Refusal {
             Refusal::NotOrthogonal => "the operator is not orthogonal",
             Refusal::NotProper => "the operator is orthogonal, but not proper",
             Refusal::BufferTooShort => "the output buffer is too short",
-            Refusal::TooManyLetters => "the gate list has more than 8,192 letters",
+            Refusal::TooManyLetters => {
+                "the gate list has more than 8,192 letters, or the text more than 8,192 statements"
+            }
             Refusal::UnknownLetter => "a byte of the gate list is no letter of the table",
             Refusal::BeginningTooDeep => {
                 "the product of a beginning of the gate list has a least exponent above 28"
@@ -89,6 +93,10 @@ impl Refusal {
                 "the sheets do not lie end to end, or the offsets of the bundle do not follow them"
             }
             Refusal::NoSheet => "the bundle has no sheet of that number",
+            Refusal::NoStatement => {
+                "a line of the text is no statement, one of the first three is missing, repeated or \
+                 out of its place, or the last has no line feed"
+            }
         }
     }
 }
@@ -107,11 +115,11 @@ mod tests {
 
     #[test]
     fn numbers_lead_to_their_refusals() {
-        for (number, refusal) in (1..=16).chain(20..=22).zip(Refusal::ALL) {
+        for (number, refusal) in (1..=16).chain(20..=23).zip(Refusal::ALL) {
             assert_eq!(refusal.number(), number);
             assert_eq!(Refusal::from_number(number), Some(refusal));
         }
-        for number in [0].into_iter().chain(17..=19).chain(23..=255) {
+        for number in [0].into_iter().chain(17..=19).chain(24..=255) {
             assert_eq!(Refusal::from_number(number), None);
         }
     }

@@ -1,6 +1,6 @@
-//! The CS cutter in plain Rust: operators, sheets and gate lists, bundles of sheets, and the states to
-//! order. Every definition, number and order of refusals is that of document 01, or of document 02
-//! where that is later.
+//! The CS cutter in plain Rust: operators, sheets and gate lists, bundles of sheets, gate lists as
+//! OpenQASM 2.0 text, and the states to order. Every definition, number and order of refusals is that
+//! of document 01, or of document 02 where that is later.
 //!
 //! A refusal is answered by its number (see [`refusal`]); it leaves every byte of the output as it
 //! was. On success the bytes past the output keep theirs too.
@@ -12,6 +12,7 @@ pub mod gate;
 pub mod generator;
 pub mod matrix;
 pub mod operator;
+pub mod qasm;
 pub mod refusal;
 pub mod sheet;
 pub mod words;
@@ -98,9 +99,18 @@ pub fn bundle_sheet(bundle: &[u8], n: u64) -> Result<&[u8], u8> {
 /// Writes the bundle of sheets that lie end to end and answers its number of bytes; of each sheet the
 /// first byte alone is looked at.
 pub fn sheets_to_bundle(sheets: &[u8], out: &mut [u8]) -> Result<usize, u8> {
-    let bundle = bundle::of_sheets(sheets)?;
-    lend(out, bundle.len())?.copy_from_slice(&bundle);
-    Ok(bundle.len())
+    write_bytes(&bundle::of_sheets(sheets)?, out)
+}
+
+/// Writes a gate list as OpenQASM 2.0 text and answers the number of bytes; how deep the list goes is
+/// not looked at.
+pub fn gates_to_qasm(list: &[u8], out: &mut [u8]) -> Result<usize, u8> {
+    write_bytes(qasm::of_list(list)?.as_bytes(), out)
+}
+
+/// Reads OpenQASM 2.0 text, writes its gate list and answers the number of letters.
+pub fn qasm_to_gates(text: &[u8], out: &mut [u8]) -> Result<usize, u8> {
+    write_bytes(&qasm::read(text)?, out)
 }
 
 /// So many thousandths as whole states: of the two around them the nearer one, and of two that are
@@ -120,6 +130,12 @@ fn nearest(thousandths: u64) -> u64 {
 fn write_operator(operator: &Operator, out: &mut [u8]) -> Result<u8, u8> {
     operator.write(lend(out, OPERATOR_BYTES)?);
     Ok(operator.exponent)
+}
+
+/// Writes the bytes at the start of a buffer and answers how many there are.
+fn write_bytes(bytes: &[u8], out: &mut [u8]) -> Result<usize, u8> {
+    lend(out, bytes.len())?.copy_from_slice(bytes);
+    Ok(bytes.len())
 }
 
 /// The first `len` bytes of a buffer, if it has as many.

@@ -1,5 +1,5 @@
 //! The numbers of the refusals, in the order of document 01, "What can be turned away"; of document
-//! 02, 16 follows 10 (P4), 15 follows 12 (P2), and 20 to 22 come last (P7).
+//! 02, 16 follows 10 (P4), 15 follows 12 (P2), and 20 to 22 (P7) and 23 (P8) come last.
 
 /// An operator file whose length is not 73.
 pub const FILE_LENGTH: u8 = 1;
@@ -13,7 +13,7 @@ pub const NOT_ORTHOGONAL: u8 = 4;
 pub const NOT_PROPER: u8 = 5;
 /// An output buffer that is too short.
 pub const BUFFER_TOO_SHORT: u8 = 6;
-/// A gate list of more than 8,192 letters.
+/// A gate list of more than 8,192 letters, or a text of more than 8,192 statements.
 pub const TOO_MANY_LETTERS: u8 = 7;
 /// A byte that is no letter of the table.
 pub const UNKNOWN_LETTER: u8 = 8;
@@ -40,3 +40,6 @@ pub const BUNDLE_TRAILER: u8 = 20;
 pub const BUNDLE_SHEETS: u8 = 21;
 /// A sheet that the bundle does not have.
 pub const NO_SHEET: u8 = 22;
+/// A line of a text that is no statement, one of the first three lines missing, repeated or out of its
+/// place, or a last line with no line feed.
+pub const NO_STATEMENT: u8 = 23;

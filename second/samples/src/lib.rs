@@ -1,14 +1,16 @@
-//! Operators of a wanted count, their files, gate lists and sheets, and bundles, drawn from a fixed
-//! seed. What they are is said by the plain implementation.
+//! Operators of a wanted count, their files, gate lists and sheets, bundles, and texts, drawn from a
+//! fixed seed. What they are is said by the plain implementation; a text is said here again.
 
 #![forbid(unsafe_code)]
 
 mod bundle;
 mod random;
+mod text;
 mod walk;
 
 pub use bundle::{part, Bundle};
 pub use random::Random;
+pub use text::{Line, Text, FIRST_LINES, STATEMENTS};
 pub use walk::{Walk, LETTERS};
 
 use plain::gate;
@@ -102,6 +104,11 @@ pub fn sheet(random: &mut Random, count: u8) -> Vec<u8> {
     let mut bytes = vec![0; sheet.size()];
     sheet.write(&mut bytes);
     bytes
+}
+
+/// So many letters, whatever they multiply to.
+pub fn letters(random: &mut Random, len: usize) -> Vec<u8> {
+    (0..len).map(|_| *random.pick(&LETTERS)).collect()
 }
 
 /// Sheets of every count, for those that draw many.

@@ -7,6 +7,11 @@ use plain::bundle::{MAX_PART, MAX_SHEETS, NUMBER_BYTES};
 use plain::sheet::{ABOVE_COUNT, ABOVE_LENGTH, MAX_SHEET, MIN_SHEET};
 use samples::{part, Bundle, Random};
 
+use crate::damages::{
+    byte_at_end, byte_at_front, cut_end, cut_front, few_of, flip_bit, no_bytes, random_bytes,
+    swap_bytes, Damage,
+};
+
 use super::any_part;
 
 /// First bytes below 64: the next one, and those around a length of 0.
@@ -19,7 +24,6 @@ const UNFIT_FIRST_BYTES: [u8; 6] = [0, 56, 63, 93, 94, 255];
 const UNFIT_LENGTHS: [usize; 6] = [1, 7, 37, 38, 64, 199];
 
 type PieceDamage = fn(&mut Random, &mut Bundle);
-type ByteDamage = fn(&mut Random, &mut Vec<u8>);
 type ListDamage = fn(&mut Random, &mut Vec<Vec<u8>>);
 
 /// Damages of the pieces of a bundle.
@@ -56,7 +60,7 @@ pub const PIECE_DAMAGES: [PieceDamage; 29] = [
 ];
 
 /// Damages of the bytes of a bundle.
-pub const BYTE_DAMAGES: [ByteDamage; 10] = [
+pub const BYTE_DAMAGES: [Damage; 10] = [
     no_bytes,
     one_byte,
     cut_end,
@@ -311,62 +315,8 @@ fn number_above_by_one_bit(random: &mut Random, bundle: &mut Bundle) {
     bundle.number |= 1 << (9 + random.below(7));
 }
 
-fn no_bytes(_: &mut Random, bytes: &mut Vec<u8>) {
-    bytes.clear();
-}
-
 fn one_byte(_: &mut Random, bytes: &mut Vec<u8>) {
     bytes.truncate(1);
-}
-
-fn cut_end(random: &mut Random, bytes: &mut Vec<u8>) {
-    let cut = few_of(random, bytes.len());
-    bytes.truncate(bytes.len() - cut);
-}
-
-fn cut_front(random: &mut Random, bytes: &mut Vec<u8>) {
-    let cut = few_of(random, bytes.len());
-    bytes.drain(..cut);
-}
-
-/// Up to three of so many, or any number of them.
-fn few_of(random: &mut Random, len: usize) -> usize {
-    let limit = if random.chance(2) { 3 } else { len };
-    random.below(limit + 1).min(len)
-}
-
-fn byte_at_end(random: &mut Random, bytes: &mut Vec<u8>) {
-    bytes.push(zero_or_any(random));
-}
-
-fn byte_at_front(random: &mut Random, bytes: &mut Vec<u8>) {
-    bytes.insert(0, zero_or_any(random));
-}
-
-fn zero_or_any(random: &mut Random) -> u8 {
-    if random.chance(2) {
-        0
-    } else {
-        random.byte()
-    }
-}
-
-fn flip_bit(random: &mut Random, bytes: &mut Vec<u8>) {
-    if !bytes.is_empty() {
-        let place = random.below(bytes.len());
-        bytes[place] ^= 1 << random.below(8);
-    }
-}
-
-fn swap_bytes(random: &mut Random, bytes: &mut Vec<u8>) {
-    if bytes.len() > 1 {
-        let (i, j) = random.two_below(bytes.len());
-        bytes.swap(i, j);
-    }
-}
-
-fn random_bytes(random: &mut Random, bytes: &mut Vec<u8>) {
-    random.fill(bytes);
 }
 
 /// Random bytes, with a number of sheets whose trailer they may hold.

@@ -1,0 +1,63 @@
+//! Damages of bytes, whatever these are. Each may leave them as they were.
+
+// Damages have one type, whether or not they change the length.
+#![allow(clippy::ptr_arg)]
+
+use samples::Random;
+
+/// A change of bytes.
+pub type Damage = fn(&mut Random, &mut Vec<u8>);
+
+pub fn no_bytes(_: &mut Random, bytes: &mut Vec<u8>) {
+    bytes.clear();
+}
+
+pub fn cut_end(random: &mut Random, bytes: &mut Vec<u8>) {
+    let cut = few_of(random, bytes.len());
+    bytes.truncate(bytes.len() - cut);
+}
+
+pub fn cut_front(random: &mut Random, bytes: &mut Vec<u8>) {
+    let cut = few_of(random, bytes.len());
+    bytes.drain(..cut);
+}
+
+/// Up to three of so many, or any number of them.
+pub fn few_of(random: &mut Random, len: usize) -> usize {
+    let limit = if random.chance(2) { 3 } else { len };
+    random.below(limit + 1).min(len)
+}
+
+pub fn byte_at_end(random: &mut Random, bytes: &mut Vec<u8>) {
+    bytes.push(zero_or_any(random));
+}
+
+pub fn byte_at_front(random: &mut Random, bytes: &mut Vec<u8>) {
+    bytes.insert(0, zero_or_any(random));
+}
+
+fn zero_or_any(random: &mut Random) -> u8 {
+    if random.chance(2) {
+        0
+    } else {
+        random.byte()
+    }
+}
+
+pub fn flip_bit(random: &mut Random, bytes: &mut Vec<u8>) {
+    if !bytes.is_empty() {
+        let place = random.below(bytes.len());
+        bytes[place] ^= 1 << random.below(8);
+    }
+}
+
+pub fn swap_bytes(random: &mut Random, bytes: &mut Vec<u8>) {
+    if bytes.len() > 1 {
+        let (i, j) = random.two_below(bytes.len());
+        bytes.swap(i, j);
+    }
+}
+
+pub fn random_bytes(random: &mut Random, bytes: &mut Vec<u8>) {
+    random.fill(bytes);
+}
