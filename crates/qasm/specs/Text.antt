@@ -42,32 +42,32 @@ name Cz = 99 ∷ 122 ∷ []
 name Cs = 99 ∷ 117 ∷ 49 ∷ 40 ∷ 112 ∷ 105 ∷ 47 ∷ 50 ∷ 41 ∷ []
 
 -- "The first qubit is q[0]."
-abbrev pub first : List ℕ
-first = 113 ∷ 91 ∷ 48 ∷ 93 ∷ []
+abbrev firstQubit : List ℕ
+firstQubit = 113 ∷ 91 ∷ 48 ∷ 93 ∷ []
 
-abbrev pub second : List ℕ
-second = 113 ∷ 91 ∷ 49 ∷ 93 ∷ []
+abbrev secondQubit : List ℕ
+secondQubit = 113 ∷ 91 ∷ 49 ∷ 93 ∷ []
 
 abbrev pair : List ℕ → List ℕ → List ℕ
 pair p q = p ++ 44 ∷ q
 
 -- "on q[0] and q[1]. The two-qubit statements name q[0],q[1]"
 abbrev pub qubits : Gate → List ℕ
-qubits H1 = first
-qubits H2 = second
-qubits S1 = first
-qubits S2 = second
-qubits Cz = pair first second
-qubits Cs = pair first second
+qubits H1 = firstQubit
+qubits H2 = secondQubit
+qubits S1 = firstQubit
+qubits S2 = secondQubit
+qubits Cz = pair firstQubit secondQubit
+qubits Cs = pair firstQubit secondQubit
 
 -- "on reading also the reverse"; one qubit has no other order
 abbrev pub qubitsReversed : Gate → List ℕ
-qubitsReversed H1 = first
-qubitsReversed H2 = second
-qubitsReversed S1 = first
-qubitsReversed S2 = second
-qubitsReversed Cz = pair second first
-qubitsReversed Cs = pair second first
+qubitsReversed H1 = firstQubit
+qubitsReversed H2 = secondQubit
+qubitsReversed S1 = firstQubit
+qubitsReversed S2 = secondQubit
+qubitsReversed Cz = pair secondQubit firstQubit
+qubitsReversed Cs = pair secondQubit firstQubit
 
 -- "Statements end in a semicolon and lines in a line feed; past the first three lines the only space is the one after the gate."
 abbrev line : List ℕ → List ℕ → List ℕ
