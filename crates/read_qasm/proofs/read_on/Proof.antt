@@ -1,44 +1,18 @@
 -- The invariant: what is in the buffer earns what the text and all bytes that were read behind it earn.
-use mathlib.Core.Logic.{_≢_}
-use mathlib.Core.Path.{_≡_, sym, ap, subst, _∙_}
-use mathlib.Core.List.{List, [], _++_, append-assoc, append-nil}
-use Prim.Native.Nat.{ℕ, _+_, _^_, _-_, _≤_}
+use mathlib.Core.Path.{_≡_, ap, subst}
+use mathlib.Core.List.{[]}
+use Prim.Native.Nat.{_^_, _-_, _≤_}
 use native.Mathlib.Omega.{arith}
 use denote.Ref.{now}
-use lib.ListN.{length, take, drop, length-take, length-drop}
-use lib.Seq.{take-all}
-use Rattle.gate.specs.Reading.{refusal}
-use Rattle.qasm.specs.Text.{longestStatement}
-use Rattle.qasm.specs.Reading.{readQasm}
-use Rattle.read_qasm.specs.Long.{StartOf, LeftOf, Waiting, lastRefusal, Earned}
-use Rattle.read_qasm.specs.Laws.Waiting.{waiting-start, waiting-next, waiting-ended, waiting-stuck}
+use lib.ListN.{length, length-take}
+use Rattle.read_qasm.specs.Long.{LeftOf}
+use Rattle.read_qasm.specs.Laws.Waiting.{tail-short, ReadOn, read-start, read-next, read-ended, read-stuck}
 use borrow.Author.Needs.{needs}
 use Rattle.read_qasm.proofs.read_on.Statement.{statement}
 use Rattle.read_qasm.proofs.read_on.Tie as tie
 
--- the bytes that were read, and what they leave in the buffer
-record Read (bs buffer : List ℕ) (left : ℕ) : Type 0 where
-  bytes : List ℕ
-  waits : Waiting (bs ++ bytes) buffer left
-
-started : (bs : List ℕ) (start : ℕ) → StartOf bs start → start ≢ 0 → (new : List ℕ) (left : ℕ) → length (drop start bs) ≤ length new → LeftOf (drop start bs) new left → Read bs new left
-started bs start s n new left h d = record { bytes = []; waits = subst (λ x. Waiting x new left) (sym (append-nil bs)) (waiting-start bs start s n new left h d) }
-
-module _ (bs old : List ℕ) (left : ℕ) (s : Read bs old left) where
-  next : (more new : List ℕ) (n : ℕ) → left + length more ≤ length new → LeftOf (take left old ++ more) new n → Read bs new n
-  next more new n h d = record {
-    bytes = s .bytes ++ more;
-    waits = subst (λ x. Waiting x new n) (append-assoc bs (s .bytes) more) (waiting-next (bs ++ s .bytes) old left (s .waits) more new n h d);
-  }
-
-  ended : {r : ℕ} → r ≡ lastRefusal left → Earned bs r
-  ended e = record { more = s .bytes; earns = waiting-ended (bs ++ s .bytes) old left (s .waits) ∙ ap refusal (sym e) }
-
-  stuck : longestStatement ≤ left → Earned bs 23
-  stuck h = record { more = s .bytes; earns = sym (ap readQasm (append-nil (bs ++ s .bytes))) ∙ waiting-stuck (bs ++ s .bytes) old left (s .waits) h [] }
-
 abbrev Inv-loop : tie.InvT-loop
-Inv-loop text start buffer₀ more₀ left₀ turns₀ buffer more left turns = (turns ≤ 2 ^ 48) × (length buffer ≡ 65557) × (length more ≡ 65536) × Read text buffer left
+Inv-loop text start buffer₀ more₀ left₀ turns₀ buffer more left turns = (turns ≤ 2 ^ 48) × (length buffer ≡ 65557) × (length more ≡ 65536) × ReadOn text buffer left
 
 abbrev μ-loop : tie.MeasureT-loop
 μ-loop text start buffer₀ more₀ left₀ turns₀ buffer more left turns = 2 ^ 48 - turns
@@ -70,36 +44,27 @@ slice-aggregate-take-in c = search needs
 take-in-requires : tie.Need-take-in-requires Inv-loop μ-loop
 take-in-requires c κs =
     let f = c .before .before .before .before in
-    let s = f .before .start-of .ensures in
-    let t = now (f .before .before .before .args .text) in
-    let l = s .long (let n = f .if1 .left in omega arith) in
-    let d = length-drop (f .before .start-of .result) t in
-    let m = length-take (length t - f .before .start-of .result) (drop (f .before .start-of .result) t) in
-    let w = c .before .before .before .window .ensures in
-    let z = f .before .before .before .pre in
+    let z = f .before .before .before in
+    let (e, l) = tail-short (now (z .args .text)) _ (f .before .start-of .ensures) (f .if1 .left) (z .pre) in
+    let m = ap length e in
     omega arith
 
 loop-holds : tie.Need-loop-holds Inv-loop μ-loop
 loop-holds c =
     let i = c .before in
     let f = i .before .before .before .before .before in
+    let z = f .before .before .before in
     let s = f .before .start-of .ensures in
-    let t = now (f .before .before .before .args .text) in
-    let from = f .before .start-of .result in
-    let l = s .long (let n = f .if1 .left in omega arith) in
-    let d = length-drop from t in
-    let e = take-all (length t - from) (drop from t) (omega arith) in
-    let w = i .before .before .before .before .window .ensures in
-    let z = f .before .before .before .pre in
-    let k = i .take-in .ensures .0 in (
+    let (e, l) = tail-short (now (z .args .text)) _ s (f .if1 .left) (z .pre) in
+    let (k, d) = i .take-in .ensures in (
       omega arith,
       omega arith,
       search needs,
-      started _ _ s (f .if1 .left) _ _ (omega arith) (subst (λ bs. LeftOf bs (i .take-in .last .1 .0) (i .take-in .result)) e (i .take-in .ensures .1)),
+      read-start _ _ s (f .if1 .left) _ _ (omega arith) (subst (λ bs. LeftOf bs (i .take-in .last .1 .0) (i .take-in .result)) e d),
     )
 
 returns-2 : tie.Need-returns-2 Inv-loop μ-loop
-returns-2 c = stuck _ _ _ (c .before .before .loop .inv .3) (c .if2 .taken)
+returns-2 c = read-stuck _ _ _ (c .before .before .loop .inv .3) (c .if2 .taken)
 
 slice-aggregate-read-full : tie.Need-slice-aggregate-read-full Inv-loop μ-loop
 slice-aggregate-read-full c = search needs
@@ -111,7 +76,7 @@ last-refusal-requires : tie.Need-last-refusal-requires Inv-loop μ-loop
 last-refusal-requires c κs = search needs
 
 returns-3 : tie.Need-returns-3 Inv-loop μ-loop
-returns-3 c = ended _ _ _ (c .before .before .before .before .before .before .before .loop .inv .3) (c .last-refusal .ensures)
+returns-3 c = read-ended _ _ _ (c .before .before .before .before .before .before .before .loop .inv .3) (c .last-refusal .ensures)
 
 array-share-prefix-more : tie.Need-array-share-prefix-more Inv-loop μ-loop
 array-share-prefix-more c = search needs
@@ -144,14 +109,14 @@ loop-again c =
       omega arith,
       omega arith,
       search needs,
-      next _ _ _ (l .loop .inv .3) _ _ _ (omega arith) (i .take-in2 .ensures .1),
+      read-next _ _ _ (l .loop .inv .3) _ _ _ (omega arith) (i .take-in2 .ensures .1),
     )
 
 last-refusal-requires-2 : tie.Need-last-refusal-requires-2 Inv-loop μ-loop
 last-refusal-requires-2 c κs = search needs
 
 returns-4 : tie.Need-returns-4 Inv-loop μ-loop
-returns-4 c = ended _ _ _ (c .before .before .loop .inv .3) (c .last-refusal2 .ensures)
+returns-4 c = read-ended _ _ _ (c .before .before .loop .inv .3) (c .last-refusal2 .ensures)
 
 pub read-on-spec : {M : Type 1} → statement M
 read-on-spec =
