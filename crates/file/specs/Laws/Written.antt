@@ -46,6 +46,11 @@ appended-as {at = at} {r = r} {old = old} {new = new} e h = subst (λ bs. Append
 pub appended-none : (at : ℕ) (old : List ℕ) → Appended [] at old old at
 appended-none at old = record { next = omega arith; buffer = paste-zero old at [] }
 
+-- bytes at the front of a buffer
+pub appended-front : {bs old new : List ℕ} {r : ℕ} → Appended bs 0 old new r → new ≡ written old bs
+unfolding written
+appended-front {bs} {old} a = let e : 0 + length bs ≡ length bs = omega arith in a .buffer ∙ ap (λ k. bs ++ drop k old) e
+
 pub appended-one : (b at : ℕ) (old : List ℕ) → at < length old → Appended (b ∷ []) at old (set old at b) (at + 1)
 appended-one b at old h = record {
   next = refl;

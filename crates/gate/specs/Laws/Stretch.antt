@@ -39,7 +39,7 @@ use Rattle.gate.specs.Laws.Product.{product-orthogonal, image-orthogonal
 use Rattle.gate.specs.Laws.Reading.{least-of-same, least-of-orthogonal, least-of-reduced, least-of-long}
 
 -- a gate more on the right
-append-gate : (w : List Gate) (g : Gate) → SameOperator (productOf (w ++ g ∷ [])) (timesOperator (productOf w) (image g))
+pub append-gate : (w : List Gate) (g : Gate) → SameOperator (productOf (w ++ g ∷ [])) (timesOperator (productOf w) (image g))
 unfolding productOf
 append-gate w g =
     same-operator-trans (product-append w (g ∷ []))

@@ -7,12 +7,12 @@ use denote.Ref.{now}
 use lib.ListN.{length}
 use Rattle.file.specs.declared.Wrote.the-variants.{Bytes, Refused}
 use Rattle.file.specs.File.{written, Appended}
-use Rattle.file.specs.Laws.Written.{appended-append, appended-length}
+use Rattle.file.specs.Laws.Written.{appended-front, appended-append, appended-length}
 use Rattle.gate.specs.Reading.{largestList}
 use Rattle.qasm.specs.Text.{versionLine, includeLine, registerLine, firstLines, textOf, firstLength}
 use Rattle.qasm.specs.Reading.{lettersOf, bodyOf}
 use Rattle.qasm.specs.Promise.{TextPromise, size}
-use Rattle.qasm.specs.Laws.Answer.{sized, size-refused, refused, no-room, room, appended-front, text-promise}
+use Rattle.qasm.specs.Laws.Answer.{sized, size-refused, refused, no-room, room, text-promise}
 use Rattle.qasm.specs.Laws.Writing.{length-first, letters-short, letters-long, text-of, text-length}
 use borrow.Author.Needs.{needs}
 use Rattle.qasm.proofs.gates_to_qasm.Statement.{statement}

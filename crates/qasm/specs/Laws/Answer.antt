@@ -1,13 +1,13 @@
 -- The ways out of a call that writes a list as bytes: each is a case of the definitions.
-use mathlib.Core.Path.{_≡_, refl, sym, ap, subst, _∙_}
-use mathlib.Core.List.{List, _++_, map}
-use Prim.Native.Nat.{ℕ, _+_, _≤_, _<_}
+use mathlib.Core.Path.{_≡_, refl, sym, ap, subst}
+use mathlib.Core.List.{List, map}
+use Prim.Native.Nat.{ℕ, _≤_, _<_}
 use native.Mathlib.Omega.{arith}
-use lib.ListN.{length, drop}
+use lib.ListN.{length}
 use borrow.Author.Tests.{lt-ltb, le-ltb}
 use Rattle.file.specs.declared.Wrote.{Wrote}
 use Rattle.file.specs.declared.Wrote.the-variants.{Bytes, Refused}
-use Rattle.file.specs.File.{written, Appended}
+use Rattle.file.specs.File.{written}
 use Rattle.letter.specs.declared.Gate.{Gate}
 use Rattle.letter.specs.Gate.{letter}
 use Rattle.gate.specs.Reading.{Reading, gates, refusal}
@@ -48,11 +48,6 @@ module _ (bytesOf : List Gate → List ℕ) {r : Reading} (old : List ℕ) where
 
     pub room : {new : List ℕ} → n ≤ length old → new ≡ written old (bytesOf w) → Done bytesOf r old new (Bytes n)
     room {new} h b = subst (λ x. Done bytesOf x old new (Bytes n)) (sym e) (rw (le-ltb (length old) (length (bytesOf w)) (omega arith)) (ap Bytes l, b))
-
--- bytes at the front of a buffer
-pub appended-front : {bs old new : List ℕ} {r : ℕ} → Appended bs 0 old new r → new ≡ written old bs
-unfolding written
-appended-front {bs} {old} a = let e : 0 + length bs ≡ length bs = omega arith in a .buffer ∙ ap (λ k. bs ++ drop k old) e
 
 -- ---- what is promised beside them
 

@@ -13,18 +13,11 @@ use Rattle.letter.specs.declared.Letter.{Letter}
 use Rattle.letter.specs.declared.Letter.the-variants.{Is, Unknown}
 use Rattle.gate.specs.Product.{image, productOf, MultipliesTo}
 use Rattle.gate.specs.Reading.{Reading, gates, refusal}
-use Rattle.gate.specs.Laws.Product.{product-append}
+use Rattle.gate.specs.Laws.Stretch.{append-gate}
 use Rattle.qasm.specs.Text.{versionLine, includeLine, registerLine, firstLines, textOf}
 use Rattle.qasm.specs.Reading.{lines, statementOf, earlier, statements, readText, acting, acted, meaning}
 use Rattle.qasm.specs.Laws.Lines.{after-lines}
 use Rattle.qasm.specs.Laws.Text.{read-text}
-
--- a letter more at the end of a list: a factor more on the right
-product-last : (v : List Gate) (g : Gate) → SameOperator (productOf (v ++ g ∷ [])) (timesOperator (productOf v) (image g))
-unfolding productOf
-product-last v g =
-    same-operator-trans (product-append v (g ∷ []))
-    (times-same (same-operator-refl (productOf v)) (same-operator-of (timesOperator (image g) (operator 0 δ)) (image g) (omega arith) (product-id-r 6 (image g .matrix))))
 
 -- lines that are read act on an operator as a product with it on the right
 acted-product : (ls : List (List ℕ)) (w : List Gate) → statements ls ≡ gates w → (A : Operator) → SameOperator (acted A ls) (timesOperator (productOf w) A)
@@ -42,7 +35,7 @@ acted-product (l ∷ ls) w e A = go (statementOf l) (statements ls) (acted-produ
         subst (λ u. SameOperator (acted (timesOperator (image g) A) ls) (timesOperator (productOf u) A)) t
         (same-operator-trans (f v refl (timesOperator (image g) A))
         (same-operator-trans (same-operator-sym (times-assoc (productOf v) (image g) A))
-        (times-same (same-operator-sym (product-last v g)) (same-operator-refl A))))
+        (times-same (same-operator-sym (append-gate v g)) (same-operator-refl A))))
 
 -- the letters of a text multiply to what it means
 pub text-means : (bs : List ℕ) (w : List Gate) → readText bs ≡ gates w → MultipliesTo w (meaning bs)
