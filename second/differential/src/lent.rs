@@ -20,10 +20,15 @@ impl Lent {
         Lent { bytes, earlier }
     }
 
-    /// A buffer that holds the given bytes.
+    /// A buffer that holds the given bytes. Every other time a line feed stands behind them, which would
+    /// end a last line.
     pub fn holding(random: &mut Random, bytes: &[u8]) -> Lent {
         let mut lent = Lent::new(random, bytes.len());
         lent.middle_mut().copy_from_slice(bytes);
+        let behind = &mut lent.bytes[GUARD + bytes.len()];
+        if *behind < 128 {
+            *behind = b'\n';
+        }
         lent.earlier.clone_from(&lent.bytes);
         lent
     }
