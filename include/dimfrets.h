@@ -15,7 +15,8 @@
  *             of a part; 0 unless an operator was cut into gates or a part found
  *   48 to 55  L: the cuts whose rows grouped as 2 and 4; 0 unless an operator was
  *             cut
- *   56 to 63  0
+ *   56 to 63  the sign of a gate list: 0 if it multiplies to the operator, 1 if to its
+ *             negative; 0 unless an operator was cut into gates
  *
  * The functions at the end of this file take a word apart.
  *
@@ -109,9 +110,15 @@ uint64_t dimfrets_operator_to_sheet(const uint8_t *in, size_t in_len,
 
 /*
  * Cuts an operator into gates.
- * Reads an operator file at `in`. Writes a gate list at `out` that multiplies to
- * the operator: letters H h S s Z C, exactly t of them C, at most 256 * (t + 1)
- * in all. Answers the count t, the number of letters, and L as for the sheet.
+ * Reads an operator file at `in`. Writes a gate list at `out` that multiplies to the
+ * operator if the sign is 0, and to its negative if it is 1: letters H h S s Z C,
+ * exactly t of them C, at most 256 * (t + 1) in all. No list that multiplies to the
+ * operator or to its negative has fewer C. In each stretch without C (before the first
+ * C, between two, and after the last) there are as many Z as there are indices among 1
+ * to 3 that the stretch sends to 4 to 6; no stretch with the same image up to sign has
+ * fewer. Answers the count t, the number of letters, L as for the sheet, and the sign,
+ * which follows from the letters. The way back is dimfrets_gates_to_operator: it writes
+ * the operator or, with the sign 1, the operator with every entry negated.
  * Refusals, the first that holds: 1, 2, 3, 4, 5, 6 (out_len below 256 * (t + 1),
  * however many letters there are).
  */
@@ -250,6 +257,15 @@ static inline size_t dimfrets_length(uint64_t answer)
 static inline unsigned dimfrets_loose(uint64_t answer)
 {
     return (unsigned)(answer >> 48 & 0xFF);
+}
+
+/*
+ * The sign of a gate list, 0 if it multiplies to the operator and 1 if to its negative; 0
+ * unless an operator was cut into gates.
+ */
+static inline unsigned dimfrets_sign(uint64_t answer)
+{
+    return (unsigned)(answer >> 56);
 }
 
 #ifdef __cplusplus

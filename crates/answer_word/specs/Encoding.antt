@@ -55,14 +55,14 @@ abbrev pub cutsParts : cuts.Cuts → Parts
 cutsParts (cuts.the-variants.Taken t loose) = given t 0 loose 0
 cutsParts (cuts.the-variants.Refused n) = refused n
 
--- the count is the value, the number of letters written the length, beside them L
+-- the count is the value, the number of letters written the length, beside them L and the sign
 abbrev pub listedParts : listed.Listed → Parts
-listedParts (listed.the-variants.Letters t letters loose) = given t letters loose 0
+listedParts (listed.the-variants.Letters t letters loose sign) = given t letters loose sign
 listedParts (listed.the-variants.Refused n) = refused n
 
 -- the number of letters written
 abbrev pub lettersOf : listed.Listed → ℕ
-lettersOf (listed.the-variants.Letters t letters loose) = letters
+lettersOf (listed.the-variants.Letters t letters loose sign) = letters
 lettersOf (listed.the-variants.Refused n) = 0
 
 -- how many bytes were written is the value

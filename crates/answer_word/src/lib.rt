@@ -58,7 +58,7 @@ pub fn encode_cuts(answer: Cuts) -> u64
 }
 
 // The word of the answer of the call for a gate list.
-// Wrong, and refused: the count as the number of letters; a refusal beside a count; L left out.
+// Wrong, and refused: the count as the number of letters; a refusal beside a count; L left out; the sign left out; L and the sign in each other's bits.
 pub fn encode_listed(answer: Listed) -> u64
     requires { ⌜ (answer ≢ Listed.Refused 0) × (lettersOf answer < 2 ^ 16) ⌝ }
     ensures { λ r. ⌜ WordOf (listedParts answer) r ⌝ }
@@ -68,7 +68,8 @@ pub fn encode_listed(answer: Listed) -> u64
             count,
             letters,
             loose,
-        } => pack(0, count as u32, letters as u16, loose, 0),
+            sign,
+        } => pack(0, count as u32, letters as u16, loose, sign),
         Listed::Refused(refusal) => pack(refusal, 0, 0, 0, 0),
     }
 }

@@ -10,8 +10,8 @@ use lib.IntN.{ℤ, pos, negsuc}
 use lib.ListN.{length, getD}
 use Rattle.matrix.specs.Range.{firstFrom, tabulate}
 use Rattle.matrix.specs.Integer.{equals}
-use Rattle.matrix.specs.Matrix.{Matrix}
-use Rattle.matrix.specs.Operator.{Operator, Proper}
+use Rattle.matrix.specs.Matrix.{Matrix, scaled}
+use Rattle.matrix.specs.Operator.{Operator, operator, Proper}
 
 -- the entry in row r of the column with byte b
 abbrev pub columnEntry : ℕ → ℕ → ℤ
@@ -39,6 +39,10 @@ negated b = cond (ltb b 128) (b + 128) (b - 128)
 -- a sign as a byte: 0 for +1, any other for −1. The number that it stands for
 abbrev pub signOf : ℕ → ℤ
 signOf s = cond (eqb s 0) (pos 1) (negsuc 0)
+
+-- an operator times a sign
+abbrev pub timesSign : ℕ → Operator → Operator
+timesSign s A = operator (A .exponent) (scaled (signOf s) (A .matrix))
 
 -- a column's byte times the sign s, and so of all columns
 abbrev pub signedByte : ℕ → ℕ → ℕ

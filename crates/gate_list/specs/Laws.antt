@@ -1,4 +1,5 @@
 -- Theorems, a file for each subject; a file cites only those above it.
+pub mod Word
 pub mod List
 pub mod Stretches
 pub mod Listing

@@ -3,13 +3,13 @@
 use mathlib.Core.Path.{_≡_}
 use mathlib.Core.Bool.{true}
 use mathlib.Core.List.{List, [], _∷_, _++_}
-use Prim.Native.Nat.{ℕ, _-_}
+use Prim.Native.Nat.{ℕ, _+_, _-_, _%_}
 use lib.ListN.{getD}
 use Rattle.clifford.specs.Columns.{arePermutation, isEven}
 use Rattle.letter.specs.declared.Gate.{Gate}
 use Rattle.letter.specs.declared.Gate.the-variants.{Cs}
 use Rattle.letter.specs.Composition.{composed, identityColumns}
-use Rattle.word.specs.Word.{cliffordWord}
+use Rattle.word.specs.Word.{cliffordWord, wordSign}
 
 -- "Each is one CS between Cliffords": the columns of the Clifford on the left and of that on the right, for generators 1 to 15
 unfoldable pub lefts : List (List ℕ)
@@ -61,18 +61,26 @@ pub record IsClifford (bs : List ℕ) : Type 0 where
   pub permutation : arePermutation bs ≡ true
   pub even : isEven bs ≡ true
 
--- a generator's word
-abbrev pub generatorWord : ℕ → List Gate
-generatorWord g = cliffordWord (leftOf g) ++ Cs ∷ cliffordWord (rightOf g)
-
--- what is written before and with a letter C, where the Clifford bs is left from before
+-- what is written before and with a letter C, where the Clifford bs is left from before, and the sign of that
 abbrev pub stretch : List ℕ → ℕ → List Gate
 stretch bs g = cliffordWord (composed bs (leftOf g)) ++ Cs ∷ []
+
+abbrev pub stretchSign : List ℕ → ℕ → ℕ
+stretchSign bs g = wordSign (composed bs (leftOf g))
 
 -- the word of a Clifford bs times generators times a Clifford cs: what stands between two letters C is one Clifford
 unfoldable pub stretches : List ℕ → List ℕ → List ℕ → List Gate
 stretches bs [] cs = cliffordWord (composed bs cs)
 stretches bs (g ∷ gs) cs = cliffordWord (composed bs (leftOf g)) ++ Cs ∷ stretches (rightOf g) gs cs
 
+-- how many of its stretches multiply to a negative
+unfoldable pub signs : List ℕ → List ℕ → List ℕ → ℕ
+signs bs [] cs = wordSign (composed bs cs)
+signs bs (g ∷ gs) cs = stretchSign bs g + signs (rightOf g) gs cs
+
 abbrev pub gateList : List ℕ → List ℕ → List Gate
 gateList gs cs = stretches identityColumns gs cs
+
+-- "its result says which, 0 for M and 1 for −M" (document 02, P9)
+abbrev pub listSign : List ℕ → List ℕ → ℕ
+listSign gs cs = signs identityColumns gs cs % 2

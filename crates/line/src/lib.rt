@@ -5,13 +5,15 @@
 ghost use Prim.Native.Nat.{_+_, _≤_};
 ghost use lib.ListN.{length};
 ghost use Rattle.file.specs.File.{Appended};
-ghost use Rattle.text.specs.Text.{countLine, sheetLine, looseLine, refusedLine, orderLine, gatesLine};
+ghost use Rattle.text.specs.Text.{countLine, sheetLine, looseLine, signLine, refusedLine, orderLine, gatesLine};
 
 const COUNT: [u8; 5] = *b"count";
 
 const SHEET: [u8; 5] = *b"sheet";
 
 const LOOSE: [u8; 5] = *b"loose";
+
+const SIGN: [u8; 4] = *b"sign";
 
 const REFUSED: [u8; 7] = *b"refused";
 
@@ -41,6 +43,14 @@ pub fn write_loose(l: u8, out: &mut [u8], at: usize) -> usize
     ensures { λ r. ⌜ Appended (looseLine l) at (now (out .entry)) (now (out .exit)) r ⌝ }
 {
     text::write_line(&LOOSE, &[l], out, at)
+}
+
+// The line of a sign.
+pub fn write_sign(s: u8, out: &mut [u8], at: usize) -> usize
+    requires { ⌜ at + length (signLine s) ≤ length (now out) ⌝ }
+    ensures { λ r. ⌜ Appended (signLine s) at (now (out .entry)) (now (out .exit)) r ⌝ }
+{
+    text::write_line(&SIGN, &[s], out, at)
 }
 
 // The line of a refusal.

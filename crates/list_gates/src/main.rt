@@ -1,4 +1,5 @@
-// Lists an operator's gates: an operator file on standard input, its count, a gate list and L on standard output.
+// Lists an operator's gates: an operator file on standard input, its count, a gate list, L and the list's sign on
+// standard output.
 
 use operator::Listed;
 ghost use Rattle.io.specs.Counts.{Counts};
@@ -15,10 +16,12 @@ fn answer(file: &[u8], out: &mut [u8; 8192]) -> usize
             count,
             letters,
             loose,
+            sign,
         } => {
             let second = line::write_count(count, out, 0);
             let third = line::write_gates(&gates[..letters], out, second);
-            line::write_loose(loose, out, third)
+            let fourth = line::write_loose(loose, out, third);
+            line::write_sign(sign, out, fourth)
         }
         Listed::Refused(refusal) => line::write_refused(refusal, out, 0),
     }

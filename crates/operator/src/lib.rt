@@ -49,18 +49,20 @@ pub fn operator_to_sheet(bytes: &[u8], out: &mut [u8]) -> Cuts
     Cuts::Taken { count, loose }
 }
 
-// What the call for a gate list answers: the count with the number of letters written and L, or the refusal's number.
+// What the call for a gate list answers: the count with the number of letters written, L and the sign, or the refusal's number.
 pub enum Listed {
     Letters {
         count: u8,
         letters: usize,
         loose: u8,
+        sign: u8,
     },
     Refused(u8),
 }
 
 // An operator file into a gate list at the front of `out`.
-// Wrong, and refused: a count that is not the number of letters C; 4 for a file that earns 3 first; no L.
+// Wrong, and refused: a count that is not the number of letters C; 4 for a file that earns 3 first; no L; the sign 0 for every list; L for the
+// sign.
 pub fn operator_to_gates(bytes: &[u8], out: &mut [u8]) -> Listed
     ensures { λ r. ⌜ GatesPromise (now (bytes .entry)) (now (out .entry)) (now (out .exit)) r ⌝ }
 {
@@ -76,10 +78,11 @@ pub fn operator_to_gates(bytes: &[u8], out: &mut [u8]) -> Listed
     if out.len() < 256 * (count as usize + 1) {
         return Listed::Refused(6);
     }
-    let letters = gate_list::write_list(count, numbers, columns, out);
+    let list = gate_list::write_list(count, numbers, columns, out);
     Listed::Letters {
         count,
-        letters,
+        letters: list.letters,
         loose,
+        sign: list.sign,
     }
 }

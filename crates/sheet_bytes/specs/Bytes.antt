@@ -4,9 +4,9 @@ use mathlib.Core.List.{List, [], _∷_, _++_}
 use Prim.Native.Nat.{ℕ, _+_, _-_}
 use lib.IntN.{ℤ}
 use lib.ListN.{length, getD, take, drop}
-use Rattle.matrix.specs.Matrix.{scaled, entry, listed}
-use Rattle.matrix.specs.Operator.{Operator, operator}
-use Rattle.clifford.specs.Columns.{columnsMatrix, columnBytes, isMinus, signOf, signed}
+use Rattle.matrix.specs.Matrix.{entry, listed}
+use Rattle.matrix.specs.Operator.{Operator}
+use Rattle.clifford.specs.Columns.{columnsMatrix, columnBytes, isMinus, timesSign, signed}
 use Rattle.reduction.specs.Reduction.{taken, remaining, normalForm}
 
 -- "The sheet's length is t + 8, number 10 allows 8 to 36": the count, the six columns and the sign, and with them up to 28 generators
@@ -54,10 +54,6 @@ sheetColumns s = take 6 (drop (length s - 7) s)
 
 abbrev pub sheetSign : List ℕ → ℕ
 sheetSign s = getD s (length s - 1) 0
-
--- an operator times a sign
-abbrev pub timesSign : ℕ → Operator → Operator
-timesSign s A = operator (A .exponent) (scaled (signOf s) (A .matrix))
 
 -- "its generators in order, times its Clifford", times the sign
 abbrev pub sheetOperator : List ℕ → Operator

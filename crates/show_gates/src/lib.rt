@@ -27,12 +27,12 @@ pub fn same_case(letters: &[u8], name: &[u8], file: [u8; 73]) {
     show::end_line(b", count ", answer);
 }
 
-// How many letters are C.
-fn cs_gates(letters: &[u8]) -> usize {
+// How many letters are this one.
+fn number_of(letters: &[u8], letter: u8) -> usize {
     let mut count = 0usize;
     let mut n = 0usize;
     while n < letters.len() {
-        if letters[n] == b'C' {
+        if letters[n] == letter {
             count += 1;
         }
         n += 1;
@@ -40,10 +40,12 @@ fn cs_gates(letters: &[u8]) -> usize {
     count
 }
 
-// The letters C of a gate list, and the operator that it multiplies to.
+// The letters C and Z of a gate list, and the operator that it multiplies to.
 fn show_list(letters: &[u8]) {
     show::show(b", letters C ");
-    io::print_decimal(1, cs_gates(letters) as u64);
+    io::print_decimal(1, number_of(letters, b'C') as u64);
+    show::show(b", letters Z ");
+    io::print_decimal(1, number_of(letters, b'Z') as u64);
     show::show(b"; multiplied");
     show_product(letters);
 }
@@ -55,9 +57,11 @@ fn end_list(answer: Listed, buffer: &[u8]) {
             count,
             letters,
             loose,
+            sign,
         } => {
             show::show_number(b": count ", count);
             show::show_number(b", loose ", loose);
+            show::show_number(b", sign ", sign);
             let list = show::front(buffer);
             if list.len() == letters {
                 show_list(list);

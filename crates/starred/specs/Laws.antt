@@ -1,3 +1,4 @@
 -- Theorems.
 pub mod Trials
 pub mod Texts
+pub mod Lists

@@ -1,4 +1,5 @@
 -- Definitions first; the theorems about them are in `Laws/`.
 pub mod Trials
 pub mod Texts
+pub mod Lists
 pub mod Laws

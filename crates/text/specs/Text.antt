@@ -48,6 +48,13 @@ looseWord = 108 ∷ 111 ∷ 111 ∷ 115 ∷ 101 ∷ []
 abbrev pub looseLine : ℕ → List ℕ
 looseLine l = line looseWord (l ∷ [])
 
+-- "sign" and 0 or 1 (document 02, P9: "its result says which, 0 for M and 1 for −M")
+abbrev pub signWord : List ℕ
+signWord = 115 ∷ 105 ∷ 103 ∷ 110 ∷ []
+
+abbrev pub signLine : ℕ → List ℕ
+signLine s = line signWord (s ∷ [])
+
 -- "the one line `refused N`"
 abbrev pub refusedWord : List ℕ
 refusedWord = 114 ∷ 101 ∷ 102 ∷ 117 ∷ 115 ∷ 101 ∷ 100 ∷ []

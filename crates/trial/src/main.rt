@@ -1,4 +1,4 @@
-// Document 01's trial cuts, and the cases of document 02, P1 to P4, P7 and P8, run through the calls: a line for each case, with the answer. I is the
+// Document 01's trial cuts, and the cases of document 02, P1 to P4 and P7 to P9, run through the calls: a line for each case, with the answer. I is the
 // identity, and the six rows are those of the example of `cut`.
 
 // An entry of −1, in the 16 bits of an operator file.
@@ -76,6 +76,7 @@ fn names() {
 
 fn listed() {
     show_gates::list_case(b"gates of I", diagonal(0, 1, 1));
+    show_gates::list_case(b"gates of -I", diagonal(0, MINUS_ONE, MINUS_ONE));
     show_gates::list_case(b"gates of the six rows", EXAMPLE);
 }
 

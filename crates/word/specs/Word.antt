@@ -1,8 +1,8 @@
 -- The word of a Clifford (document 01, "Gate list": "Its Clifford letters are the builder's choice, from tables printed in docs/").
 -- A Clifford is given by the bytes of its columns. Its halves are rows 1 to 3, which the first qubit's gates move, and rows 4 to 6, which
--- the second's do. The word is a rotation of either half, a part that takes columns from one half across to the other, a part that says
--- which of columns 4 to 6 these are, and ZZ where the sign is −1.
-use mathlib.Core.Bool.{Bool, true, false, not, cond}
+-- the second's do. The word is a rotation of either half, a part that takes columns from one half across to the other, and a part that says
+-- which of columns 4 to 6 these are. It multiplies to the Clifford or to its negative.
+use mathlib.Core.Bool.{Bool, true, false, cond}
 use mathlib.Core.List.{List, [], _∷_, _++_, map}
 use Prim.Native.Nat.{ℕ, _+_, _*_, _%_}
 use lib.Dec.{ltb}
@@ -160,17 +160,13 @@ partsOf bs = getD partWords (firstPart bs) [] ++ getD partWords (secondPart bs) 
 abbrev pub halvesEven : List ℕ → Bool
 halvesEven bs = isEvenHalf (localColumns bs)
 
--- the word up to sign
-unfoldable pub unsignedWord : List ℕ → List Gate
-unsignedWord bs = rotationsOf (halvesEven bs) (localColumns bs) ++ partsOf bs
-
--- ZZ is −1
-abbrev pub signWord : Bool → List Gate
-signWord even = cond even [] (Cz ∷ Cz ∷ [])
-
 unfoldable pub cliffordWord : List ℕ → List Gate
-cliffordWord bs = unsignedWord bs ++ signWord (halvesEven bs)
+cliffordWord bs = rotationsOf (halvesEven bs) (localColumns bs) ++ partsOf bs
+
+-- its sign (document 02, P9): "0 for M and 1 for −M"
+abbrev pub wordSign : List ℕ → ℕ
+wordSign bs = cond (halvesEven bs) 0 1
 
 -- how many of the columns 1 to 3 have their entry in rows 4 to 6
 abbrev pub crossings : List ℕ → ℕ
-crossings bs = bit (not (isLow (getD bs 0 0))) + bit (not (isLow (getD bs 1 0))) + bit (not (isLow (getD bs 2 0)))
+crossings bs = cond (isLow (getD bs 0 0)) 0 1 + cond (isLow (getD bs 1 0)) 0 1 + cond (isLow (getD bs 2 0)) 0 1

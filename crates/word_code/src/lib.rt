@@ -24,12 +24,12 @@ fn letter_at(digit: u64) -> u8
 }
 
 // The most letters of a word in a table.
-const LONGEST: usize = 18;
+const LONGEST: usize = 16;
 
 // Writes the letters of a number from `at` on and returns the place after them; the rest of the buffer stays.
 pub fn write_code(code: u64, out: &mut [u8], at: usize) -> usize
-    requires { ⌜ at + 18 ≤ length (now out) ⌝ }
-    ensures { λ r. ⌜ ((w : List Gate) → code ≡ encoded w → length w ≤ 18 → Written w at (now (out .entry)) (now (out .exit)) r) ⌝ }
+    requires { ⌜ at + 16 ≤ length (now out) ⌝ }
+    ensures { λ r. ⌜ ((w : List Gate) → code ≡ encoded w → length w ≤ 16 → Written w at (now (out .entry)) (now (out .exit)) r) ⌝ }
 {
     let mut rest = code;
     let mut i = 0usize;

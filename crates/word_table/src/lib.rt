@@ -5,7 +5,7 @@ ghost use mathlib.Core.Path.{_≡_};
 ghost use Prim.Native.Nat.{_+_, _<_, _≤_};
 ghost use lib.ListN.{length, getD};
 ghost use Rattle.letter.specs.Written.{Written};
-ghost use Rattle.word.specs.Word.{partWords, rotationWords, onQubit, rotationsOf, partsOf, signWord, cliffordWord};
+ghost use Rattle.word.specs.Word.{partWords, rotationWords, onQubit, rotationsOf, partsOf, cliffordWord, wordSign};
 ghost use Rattle.word_code.specs.Code.{encoded};
 
 // The tables of specs/Word.antt of `word`. A word is a number; its letters are octal digits, the first one lowest: 1 to 6 for H, h, S, s, Z, C.
@@ -147,27 +147,24 @@ fn write_parts(columns: [u8; 6], out: &mut [u8], at: usize) -> usize
     word_code::write_code(part_code(second), out, next)
 }
 
-// Writes the sign.
-fn write_sign(even: bool, out: &mut [u8], at: usize) -> usize
-    requires { ⌜ at + 2 ≤ length (now out) ⌝ }
-    ensures { λ r. ⌜ Written (signWord even) at (now (out .entry)) (now (out .exit)) r ⌝ }
-{
-    if even {
-        return at;
-    }
-    out[at] = b'Z';
-    out[at + 1] = b'Z';
-    at + 2
+// Where a word that is written ends, and its sign.
+pub struct Word {
+    pub next: usize,
+    pub sign: u8,
 }
 
-// Writes the word of a Clifford into the buffer from `at` on and returns the place after it; the rest of the buffer stays.
-pub fn write_clifford(columns: [u8; 6], out: &mut [u8], at: usize) -> usize
-    requires { ⌜ at + 40 ≤ length (now out) ⌝ }
-    ensures { λ r. ⌜ Written (cliffordWord columns) at (now (out .entry)) (now (out .exit)) r ⌝ }
+// Writes the word of a Clifford into the buffer from `at` on; the rest of the buffer stays.
+// Wrong, and refused: the sign 0, or 1, for every Clifford; ZZZ in place of Z.
+pub fn write_clifford(columns: [u8; 6], out: &mut [u8], at: usize) -> Word
+    requires { ⌜ at + 37 ≤ length (now out) ⌝ }
+    ensures { λ r. ⌜ Written (cliffordWord columns) at (now (out .entry)) (now (out .exit)) (r .next) × (r .sign ≡ wordSign columns) ⌝ }
 {
     let local = decomposition::local_columns(columns);
     let even = decomposition::is_even(local[0], local[1], local[2]);
-    let a = write_rotations(even, local, out, at);
-    let b = write_parts(columns, out, a);
-    write_sign(even, out, b)
+    let parts = write_rotations(even, local, out, at);
+    let next = write_parts(columns, out, parts);
+    if even {
+        return Word { next, sign: 0 };
+    }
+    Word { next, sign: 1 }
 }

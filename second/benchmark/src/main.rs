@@ -1,9 +1,11 @@
 //! Measures the time per call of the library and of the plain implementation, on the same inputs
-//! and in the same run, and prints a table in Markdown.
+//! and in the same run, and prints a table in Markdown. With `--letters` it measures nothing and prints
+//! a table of the letters that the library writes for the inputs of `operator_to_gates`.
 
 #![forbid(unsafe_code)]
 
 use std::hint::black_box;
+use std::process::ExitCode;
 use std::time::{Duration, Instant};
 
 use samples::Random;
@@ -15,6 +17,7 @@ const ROUND_TIME: Duration = Duration::from_millis(15);
 const BUFFER: usize = dimfrets::QASM_BUFFER;
 const SHEETS: usize = dimfrets::MAX_SHEETS;
 const LAST_SHEET: u64 = SHEETS as u64 - 1;
+const GATES: &str = "operator_to_gates";
 
 // One buffer holds whatever a call writes.
 const _: () = assert!(BUFFER >= dimfrets::GATES_BUFFER && BUFFER >= dimfrets::BUNDLE_BUFFER);
@@ -38,10 +41,10 @@ const SUBJECTS: [Subject; 9] = [
         plain: |file, out| plain::operator_to_sheet(file, out).unwrap().count.into(),
     },
     Subject {
-        name: "operator_to_gates",
+        name: GATES,
         input: operator_file,
         dimfrets: |file, out| dimfrets::operator_to_gates(file, out).unwrap().letters as u64,
-        plain: |file, out| plain::operator_to_gates(file, out).unwrap().1 as u64,
+        plain: |file, out| plain::operator_to_gates(file, out).unwrap().letters as u64,
     },
     Subject {
         name: "gates_to_operator",
@@ -91,23 +94,52 @@ const SUBJECTS: [Subject; 9] = [
     },
 ];
 
-fn main() {
+fn main() -> ExitCode {
+    match std::env::args().nth(1).as_deref() {
+        None => print_times(),
+        Some("--letters") => print_letters(),
+        Some(_) => {
+            eprintln!("no argument, or --letters");
+            return ExitCode::FAILURE;
+        }
+    }
+    ExitCode::SUCCESS
+}
+
+fn print_times() {
     println!("| call | count | dimfrets ns | plain ns | ratio |");
     println!("|---|---:|---:|---:|---:|");
+    for_each_row(|subject, count, inputs| {
+        let [dimfrets, plain] = measure([subject.dimfrets, subject.plain], inputs);
+        let (name, ratio) = (subject.name, dimfrets / plain);
+        println!("| {name} | {count} | {dimfrets:.1} | {plain:.1} | {ratio:.2} |");
+    });
+}
+
+fn print_letters() {
+    println!("| count | lists | letters | Z | C |");
+    println!("|---:|---:|---:|---:|---:|");
+    for_each_row(|subject, count, inputs| {
+        if subject.name == GATES {
+            let letters: Vec<u8> = inputs.iter().flat_map(|file| gates(file)).collect();
+            let times = |wanted| letters.iter().filter(|&&letter| letter == wanted).count();
+            let (lists, cz_gates, cs_gates) = (inputs.len(), times(b'Z'), times(b'C'));
+            let letters = letters.len();
+            println!("| {count} | {lists} | {letters} | {cz_gates} | {cs_gates} |");
+        }
+    });
+}
+
+/// Hands out every subject with every count and the inputs that are drawn for the two.
+fn for_each_row(row: impl Fn(&Subject, u8, &[Vec<u8>])) {
     let mut random = Random::new(6);
     for subject in &SUBJECTS {
         for count in COUNTS {
-            subject.print_row(&mut random, count);
+            let inputs: Vec<_> = (0..INPUTS)
+                .map(|_| (subject.input)(&mut random, count))
+                .collect();
+            row(subject, count, &inputs);
         }
-    }
-}
-
-impl Subject {
-    fn print_row(&self, random: &mut Random, count: u8) {
-        let inputs: Vec<_> = (0..INPUTS).map(|_| (self.input)(random, count)).collect();
-        let [dimfrets, plain] = measure([self.dimfrets, self.plain], &inputs);
-        let (name, ratio) = (self.name, dimfrets / plain);
-        println!("| {name} | {count} | {dimfrets:.1} | {plain:.1} | {ratio:.2} |");
     }
 }
 
@@ -153,11 +185,19 @@ fn operator_file(random: &mut Random, count: u8) -> Vec<u8> {
     samples::file(&samples::operator(random, count))
 }
 
+/// The gate list that the library writes for an operator file.
+fn gates(file: &[u8]) -> Vec<u8> {
+    let mut list = vec![0; BUFFER];
+    let written = dimfrets::operator_to_gates(file, &mut list);
+    list.truncate(written.expect("an accepted operator").letters);
+    list
+}
+
 /// The gate list that the plain implementation writes for an operator of the count.
 fn gate_list(random: &mut Random, count: u8) -> Vec<u8> {
     let mut list = vec![0; BUFFER];
     let written = plain::operator_to_gates(&operator_file(random, count), &mut list);
-    let (_, letters) = written.expect("an accepted operator");
+    let letters = written.expect("an accepted operator").letters;
     list.truncate(letters);
     list
 }

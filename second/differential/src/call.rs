@@ -40,11 +40,12 @@ pub const CALLS: [Call; 9] = [
 /// What a call answered.
 #[derive(Clone, Copy, Debug, PartialEq, Eq)]
 pub enum Answer {
-    /// The count, or the figure of states, the number of letters written, and L.
+    /// The count, or the figure of states, the number of letters written, L, and the sign.
     Count {
         count: u64,
         letters: usize,
         loose: u8,
+        sign: u8,
     },
     /// The number of bytes written.
     Written(usize),
@@ -63,16 +64,18 @@ impl Answer {
             count,
             letters: 0,
             loose: 0,
+            sign: 0,
         }
     }
 
-    /// The answer as far as the papers settle it.
+    /// The answer as far as the papers settle it: the letters are free, and the sign follows from them.
     pub fn without_letters(self) -> Answer {
         match self {
             Answer::Count { count, loose, .. } => Answer::Count {
                 count,
                 letters: 0,
                 loose,
+                sign: 0,
             },
             other => other,
         }
@@ -113,11 +116,16 @@ impl Call {
     pub fn tested(self, input: &[u8], out: &mut [u8]) -> Answer {
         let call = || match self {
             Call::OperatorToSheet => match dimfrets::operator_to_sheet(input, out) {
-                Ok(cuts) => of_cuts(cuts.count, 0, cuts.loose),
+                Ok(cuts) => of_cuts(cuts.count, cuts.loose),
                 Err(refusal) => Answer::Refused(refusal.number()),
             },
             Call::OperatorToGates => match dimfrets::operator_to_gates(input, out) {
-                Ok(written) => of_cuts(written.count, written.letters, written.loose),
+                Ok(dimfrets::Letters {
+                    count,
+                    letters,
+                    loose,
+                    sign,
+                }) => of_letters(count, letters, loose, sign),
                 Err(refusal) => Answer::Refused(refusal.number()),
             },
             Call::GatesToOperator => of_refusal(dimfrets::gates_to_operator(input, out)),
@@ -141,11 +149,16 @@ impl Call {
     pub fn plain(self, input: &[u8], out: &mut [u8]) -> Answer {
         match self {
             Call::OperatorToSheet => match plain::operator_to_sheet(input, out) {
-                Ok(cuts) => of_cuts(cuts.count, 0, cuts.loose),
+                Ok(cuts) => of_cuts(cuts.count, cuts.loose),
                 Err(number) => Answer::Refused(number),
             },
             Call::OperatorToGates => match plain::operator_to_gates(input, out) {
-                Ok((cuts, letters)) => of_cuts(cuts.count, letters, cuts.loose),
+                Ok(plain::Letters {
+                    count,
+                    letters,
+                    loose,
+                    sign,
+                }) => of_letters(count, letters, loose, sign),
                 Err(number) => Answer::Refused(number),
             },
             Call::GatesToOperator => of_number(plain::gates_to_operator(input, out)),
@@ -195,11 +208,16 @@ fn of_number(answer: Result<impl Into<u64>, u8>) -> Answer {
     }
 }
 
-fn of_cuts(count: u8, letters: usize, loose: u8) -> Answer {
+fn of_cuts(count: u8, loose: u8) -> Answer {
+    of_letters(count, 0, loose, 0)
+}
+
+fn of_letters(count: u8, letters: usize, loose: u8, sign: u8) -> Answer {
     Answer::Count {
         count: count.into(),
         letters,
         loose,
+        sign,
     }
 }
 

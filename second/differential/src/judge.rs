@@ -2,14 +2,15 @@
 //! difference.
 
 use plain::bundle::MAX_BUNDLE;
-use plain::gate::{image, LETTERS_PER_COUNT};
-use plain::operator::{Operator, OPERATOR_BYTES};
+use plain::gate::LETTERS_PER_COUNT;
+use plain::operator::OPERATOR_BYTES;
 use plain::qasm::{self, MAX_STATEMENT};
 use plain::refusal::NO_SHEET;
 use plain::sheet::{MAX_SHEET, MIN_SHEET};
 use samples::{Random, Text, FIRST_LINES};
 
 use crate::call::{self, Answer, Call};
+use crate::gates;
 use crate::lent::Lent;
 use crate::tally::Tally;
 
@@ -67,6 +68,9 @@ impl Judge {
         };
         case.check(lent_input.unchanged_past(0));
         self.tally.add(call, tested, case.last_byte());
+        if let Some((list, sign)) = case.gates() {
+            self.tally.add_gates(list, sign);
+        }
         if let Some(bundle) = case.bundle() {
             self.tally.add_bundle(call, tested, bundle);
         }
@@ -127,9 +131,7 @@ impl Case<'_> {
             "the plain implementation changed a byte outside the output",
         );
         match (self.call, *tested) {
-            (Call::OperatorToGates, Answer::Count { count, .. }) => {
-                self.check_gates(count as usize)
-            }
+            (Call::OperatorToGates, Answer::Count { .. }) => self.check_gates(),
             _ => self.demand(tested_out.same(plain_out), "the output differs"),
         }
         if let Some((list, text)) = self.list_and_text() {
@@ -137,25 +139,18 @@ impl Case<'_> {
         }
     }
 
-    /// The written gate list keeps its promises and multiplies to the operator.
-    fn check_gates(&self, count: usize) {
-        let list = self.output();
-        let known = list.iter().all(|&letter| image(letter).is_some());
-        self.demand(known, "a byte of the gate list is no letter");
-        let cs_gates = list.iter().filter(|&&letter| letter == b'C').count();
-        self.demand(cs_gates == count, "the letters C are not the count");
-        let short = list.len() <= LETTERS_PER_COUNT * (count + 1);
-        self.demand(short, "the gate list has too many letters");
-        let mut least = [0; OPERATOR_BYTES];
-        let operator = Operator::read(self.input).expect("an accepted operator");
-        operator.write(&mut least);
-        let mut product = [0; OPERATOR_BYTES];
-        let answer = plain::gates_to_operator(list, &mut product);
-        self.demand(answer == Ok(count as u8), "the gate list has another count");
-        self.demand(
-            product == least,
-            "the gate list does not multiply to the operator",
-        );
+    /// Both gate lists keep their promises; the letters need not be the same, nor with them the signs.
+    fn check_gates(&self) {
+        for (name, (answer, out)) in self.sides() {
+            let (count, sign) = match *answer {
+                Answer::Count { count, sign, .. } => (count, sign),
+                _ => unreachable!("both implementations answer a count"),
+            };
+            let list = &out.middle()[..self.written(*answer)];
+            if let Err(fault) = gates::check(self.input, list, count, sign) {
+                self.end(&format!("{name}: {fault}"));
+            }
+        }
     }
 
     /// The text is read as the list, and the list is written as the text but for the order of qubits.
@@ -195,6 +190,14 @@ impl Case<'_> {
         sheet.last().copied()
     }
 
+    /// The gate list that an operator was cut into, and its sign, if one was.
+    fn gates(&self) -> Option<(&[u8], u8)> {
+        match (self.call, self.tested.0) {
+            (Call::OperatorToGates, Answer::Count { sign, .. }) => Some((self.output(), sign)),
+            _ => None,
+        }
+    }
+
     /// The bundle that was written or read, if one was; it was also read where it has no sheet n.
     fn bundle(&self) -> Option<&[u8]> {
         match (self.call, self.tested.0) {
@@ -216,12 +219,21 @@ impl Case<'_> {
     }
 
     fn demand(&self, holds: bool, otherwise: &str) {
-        if holds {
-            return;
+        if !holds {
+            self.end(otherwise);
         }
-        println!("{}: {otherwise}", self.call.name());
+    }
+
+    /// What came of both implementations, with their names.
+    fn sides(&self) -> [(&'static str, &(Answer, Lent)); 2] {
+        [("dimfrets", &self.tested), ("plain", &self.plain)]
+    }
+
+    /// Prints what is wrong and ends the program.
+    fn end(&self, wrong: &str) -> ! {
+        println!("{}: {wrong}", self.call.name());
         println!("input ({} bytes): {}", self.input.len(), hex(self.input));
-        for (name, (answer, out)) in [("dimfrets", &self.tested), ("plain", &self.plain)] {
+        for (name, (answer, out)) in self.sides() {
             let out = out.middle();
             println!(
                 "{name}: {answer:?}, buffer ({} bytes): {}",

@@ -5,7 +5,9 @@
 
 mod bundles;
 mod call;
+mod cliffords;
 mod damages;
+mod gates;
 mod judge;
 mod lent;
 mod lists;
@@ -23,6 +25,7 @@ use judge::Judge;
 fn main() -> ExitCode {
     let mut judge = Judge::new();
     trials::run(&mut judge);
+    cliffords::run(&mut judge);
     operators::run(&mut judge);
     lists::run(&mut judge);
     sheets::run(&mut judge);

@@ -1,7 +1,9 @@
 //! How often each call ran, each refusal of each call came, and each count, or figure of states, each
-//! L, each last byte of a sheet, each number of sheets in a bundle, each length and position of a part
-//! of one, each statement of a text, and each number of few or of most statements was seen.
+//! L, each sign of a gate list, each number of Z in a stretch of one, each last byte of a sheet, each
+//! number of sheets in a bundle, each length and position of a part of one, each statement of a text, and
+//! each number of few or of most statements was seen.
 
+mod gates;
 mod texts;
 
 use std::fmt::Display;
@@ -13,6 +15,7 @@ use samples::{LETTERS, STATEMENTS};
 
 use crate::call::{Answer, Call, CALLS};
 
+use gates::Gates;
 use texts::Texts;
 
 const REFUSALS: usize = 256;
@@ -37,6 +40,9 @@ const COUNTING_CALLS: [Call; 5] = [
 /// The calls that cut an operator; L is below the count.
 const CUTTING_CALLS: [Call; 2] = [Call::OperatorToSheet, Call::OperatorToGates];
 
+/// The call that writes the gate list of an operator.
+const GATES_CALL: Call = Call::OperatorToGates;
+
 /// The calls that write or read sheets.
 const SHEET_CALLS: [Call; 2] = [Call::OperatorToSheet, Call::SheetToOperator];
 
@@ -58,6 +64,7 @@ pub struct Tally {
     refusals: [[u64; REFUSALS]; CALLS.len()],
     counts: [Vec<u64>; CALLS.len()],
     loose: [[u64; LOOSE]; CALLS.len()],
+    gates: Gates,
     last_bytes: [[u64; LAST_BYTES]; CALLS.len()],
     sheets: [[u64; NUMBERS_OF_SHEETS]; CALLS.len()],
     part_lengths: [u64; PART_LENGTHS],
@@ -72,6 +79,7 @@ impl Tally {
             refusals: [[0; REFUSALS]; CALLS.len()],
             counts: CALLS.map(|call| vec![0; counts(call)]),
             loose: [[0; LOOSE]; CALLS.len()],
+            gates: Gates::new(),
             last_bytes: [[0; LAST_BYTES]; CALLS.len()],
             sheets: [[0; NUMBERS_OF_SHEETS]; CALLS.len()],
             part_lengths: [0; PART_LENGTHS],
@@ -96,6 +104,11 @@ impl Tally {
         }
     }
 
+    /// Counts a gate list that an operator was cut into.
+    pub fn add_gates(&mut self, list: &[u8], sign: u8) {
+        self.gates.add(list, sign);
+    }
+
     /// Counts a bundle that was written or read, and the part of it that was handed back, if one was.
     pub fn add_bundle(&mut self, call: Call, answer: Answer, bundle: &[u8]) {
         let number = bundle.last_chunk().expect("a bundle says its number");
@@ -115,9 +128,9 @@ impl Tally {
     }
 
     /// Prints a line for each call, one for all refusals and one for those of each call, one for the
-    /// counts of each call that answers them, one for the L of each call that cuts, one for the last
-    /// bytes of each call with sheets, one for the numbers of sheets of each call with bundles, two for
-    /// the parts, and three for each call with texts.
+    /// counts of each call that answers them, one for the L of each call that cuts, two for the gate lists
+    /// of operators, one for the last bytes of each call with sheets, one for the numbers of sheets of each
+    /// call with bundles, two for the parts, and three for each call with texts.
     pub fn print(&self) {
         for (call, inputs) in CALLS.iter().zip(self.inputs) {
             println!("{}: {inputs} inputs", call.name());
@@ -136,6 +149,7 @@ impl Tally {
             let times = numbered(&self.loose[call as usize]);
             println!("L of {}:{times}", call.name());
         }
+        self.gates.print(GATES_CALL);
         for call in SHEET_CALLS {
             let times = numbered(&self.last_bytes[call as usize]);
             println!("last bytes of {}:{times}", call.name());
@@ -180,6 +194,7 @@ impl Tally {
         for call in CUTTING_CALLS {
             gaps.extend(missing("L", call, &self.loose[call as usize]));
         }
+        gaps.extend(self.gates.gaps(GATES_CALL));
         for call in SHEET_CALLS {
             gaps.extend(missing("last byte", call, &self.last_bytes[call as usize]));
         }

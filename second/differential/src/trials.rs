@@ -1,6 +1,6 @@
 //! The cases of document 01, "Trial cuts", with the first byte of document 02, P4, the last byte of P2
-//! and the L of P3, the example of `cut`, the orders of document 02, P1, small bundles of P7 and small
-//! texts of P8, on both implementations.
+//! and the L of P3, the example of `cut`, the orders of document 02, P1, small bundles of P7, small texts
+//! of P8 and the signs of P9, on both implementations.
 
 use std::fmt::Debug;
 
@@ -116,6 +116,7 @@ pub fn run(judge: &mut Judge) {
     bundles(judge);
     refused_bundles(judge);
     texts(judge);
+    signs(judge);
 }
 
 fn accepted_operators(judge: &mut Judge) {
@@ -224,6 +225,21 @@ fn texts(judge: &mut Judge) {
     }
 }
 
+/// The identity and its negative have no letters; their signs tell them apart.
+fn signs(judge: &mut Judge) {
+    for (sign, entry) in [(0, 1), (1, -1)] {
+        let file = file(&scale(&IDENTITY, entry), 0);
+        let empty = Answer::Count {
+            count: 0,
+            letters: 0,
+            loose: 0,
+            sign,
+        };
+        let written = judge.run_with(Call::OperatorToGates, &file, LETTERS_PER_COUNT);
+        same(Call::OperatorToGates, &file, &written, &(empty, vec![]));
+    }
+}
+
 /// The list multiplies to the operator of the sheet and of this L.
 fn list_cuts(judge: &mut Judge, list: &[u8], sheet: &[u8], loose: u8) {
     let (_, file) = judge.run_with(Call::GatesToOperator, list, OPERATOR_BYTES);
@@ -231,19 +247,22 @@ fn list_cuts(judge: &mut Judge, list: &[u8], sheet: &[u8], loose: u8) {
     cuts(judge, &file, &file, sheet, loose);
 }
 
-/// The operator cuts into the sheet with this L, and sheet and gate list lead back to its least file.
+/// The operator cuts into the sheet with this L, and the sheet leads back to its least file, as does the
+/// gate list, or to that of the negative where its sign is 1.
 fn cuts(judge: &mut Judge, file: &[u8], least: &[u8], sheet: &[u8], loose: u8) {
     let cut = Answer::Count {
         count: count(sheet) as u64,
         letters: 0,
         loose,
+        sign: 0,
     };
     expect(judge, Call::OperatorToSheet, file, cut, sheet);
     expect(judge, Call::SheetToOperator, sheet, count_of(sheet), least);
     let letters = LETTERS_PER_COUNT * (count(sheet) + 1);
     let (listed, list) = judge.run_with(Call::OperatorToGates, file, letters);
     same(Call::OperatorToGates, file, &listed.without_letters(), &cut);
-    expect(judge, Call::GatesToOperator, &list, count_of(sheet), least);
+    let said = with_sign(least, listed);
+    expect(judge, Call::GatesToOperator, &list, count_of(sheet), &said);
 }
 
 fn refused_operator(judge: &mut Judge, file: &[u8], number: u8) {
@@ -262,12 +281,19 @@ pub fn expect(judge: &mut Judge, call: Call, input: &[u8], answer: Answer, outpu
 }
 
 /// Ends the program unless both implementations gave what the papers say.
-fn same<T: Debug + PartialEq>(call: Call, input: &[u8], given: &T, expected: &T) {
+pub fn same<T: Debug + PartialEq>(call: Call, input: &[u8], given: &T, expected: &T) {
     if given != expected {
         println!("{}: input {input:?}", call.name());
         println!("expected {expected:?}; both gave {given:?}");
         std::process::exit(1);
     }
+}
+
+/// The least file of the operator or, where the answer's sign is 1, of its negative.
+fn with_sign(least: &[u8], answer: Answer) -> Vec<u8> {
+    let negative = matches!(answer, Answer::Count { sign: 1, .. });
+    let operator = Operator::read(least).expect("an accepted operator");
+    samples::file(&operator.with_sign(negative.into()))
 }
 
 fn count_of(sheet: &[u8]) -> Answer {

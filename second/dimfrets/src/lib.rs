@@ -25,13 +25,35 @@
 //! assert_eq!((cuts.count, cuts.loose), (2, 1));
 //! assert_eq!(sheet[..10], [66, 3, 13, 3, 130, 1, 4, 5, 6, 0]);
 //!
-//! let mut list = vec![0; dimfrets::GATES_BUFFER];
-//! let written = dimfrets::operator_to_gates(&file, &mut list)?;
-//! let mut back = [0; dimfrets::OPERATOR_BYTES];
-//! dimfrets::gates_to_operator(&list[..written.letters], &mut back)?;
-//! assert_eq!(back[..], file);
-//!
 //! assert_eq!(dimfrets::states_to_order(28, 50), Ok(29));
+//! # Ok::<(), dimfrets::Refusal>(())
+//! ```
+//!
+//! Its gate list, and the way back: the letters multiply to the operator if the sign is 0, and to its
+//! negative, the file with every entry turned, if it is 1.
+//!
+//! ```
+//! # let rows: [[i16; 6]; 6] = [
+//! #     [1, 1, 1, 0, 0, -1],
+//! #     [-1, -1, 1, 0, 0, -1],
+//! #     [1, -1, -1, 0, 0, -1],
+//! #     [0, 0, 0, 0, -2, 0],
+//! #     [0, 0, 0, 2, 0, 0],
+//! #     [1, -1, 1, 0, 0, 1],
+//! # ];
+//! let file = |sign: i16| {
+//!     let mut file = vec![2];
+//!     file.extend(rows.iter().flatten().flat_map(|entry| (sign * entry).to_le_bytes()));
+//!     file
+//! };
+//! let mut list = vec![0; dimfrets::GATES_BUFFER];
+//! let written = dimfrets::operator_to_gates(&file(1), &mut list)?;
+//! assert_eq!((written.count, written.loose), (2, 1));
+//!
+//! let mut product = [0; dimfrets::OPERATOR_BYTES];
+//! dimfrets::gates_to_operator(&list[..written.letters], &mut product)?;
+//! let said = if written.sign == 0 { file(1) } else { file(-1) };
+//! assert_eq!(product[..], said);
 //! # Ok::<(), dimfrets::Refusal>(())
 //! ```
 //!
@@ -105,13 +127,15 @@ pub struct Cuts {
     pub loose: u8,
 }
 
-/// What a written gate list has: its count, the number of its letters C, all its letters, and L, the
-/// number of cuts whose rows grouped as 2 and 4.
+/// What a written gate list has: its count, the number of its letters C, all its letters, L, the number
+/// of cuts whose rows grouped as 2 and 4, and the sign, 0 if it multiplies to the operator and 1 if to its
+/// negative.
 #[derive(Clone, Copy, Debug, PartialEq, Eq)]
 pub struct Letters {
     pub count: u8,
     pub letters: usize,
     pub loose: u8,
+    pub sign: u8,
 }
 
 /// A call from lent bytes to lent bytes.
@@ -140,7 +164,10 @@ pub fn operator_to_sheet(file: &[u8], out: &mut [u8]) -> Result<Cuts, Refusal> {
     cuts(run(dimfrets_operator_to_sheet, file, out))
 }
 
-/// Cuts an operator file into a gate list of t letters C; `out` has at least 256 × (t + 1) bytes.
+/// Cuts an operator file into a gate list of t letters C, the fewest for the operator and for its negative;
+/// `out` has at least 256 × (t + 1) bytes. Each stretch without C, the ends included, has as many Z as there
+/// are indices among 1 to 3 that it sends to 4 to 6; no Clifford letters with that product, up to sign,
+/// have fewer. The list multiplies to the operator if the sign is 0, and to its negative if it is 1.
 ///
 /// Refuses with [`Refusal::FileLength`] to [`Refusal::BufferTooShort`], in their order.
 pub fn operator_to_gates(file: &[u8], out: &mut [u8]) -> Result<Letters, Refusal> {
@@ -243,9 +270,15 @@ struct Parts {
     value: u32,
     length: u16,
     loose: u8,
+    sign: u8,
 }
 
 impl Parts {
+    /// An answer with nothing beside its value.
+    fn alone(self) -> Parts {
+        self.without_length().without_loose().without_sign()
+    }
+
     fn without_length(self) -> Parts {
         assert_eq!(
             self.length, 0,
@@ -258,59 +291,65 @@ impl Parts {
         assert_eq!(self.loose, 0, "only an operator that is cut has an L");
         self
     }
+
+    fn without_sign(self) -> Parts {
+        assert_eq!(self.sign, 0, "only a gate list that is written has a sign");
+        self
+    }
 }
 
 /// Takes the word of an answer apart: the refusal's number in bits 0 to 7, the value in 8 to 31,
-/// the length in 32 to 47, L in 48 to 55. With a refusal all other bits are 0; those from 56 on
-/// always are.
+/// the length in 32 to 47, L in 48 to 55, the sign in 56 to 63. With a refusal all other bits are 0.
 fn parts(word: u64) -> Result<Parts, Refusal> {
     if word as u8 != 0 {
         let number = u8::try_from(word).expect("a refusal has no other part");
         return Err(Refusal::from_number(number).expect("a refusal has a known number"));
     }
-    assert_eq!(word >> 56, 0, "no answer has a part from bit 56 on");
     Ok(Parts {
         value: word as u32 >> 8,
         length: (word >> 32) as u16,
         loose: (word >> 48) as u8,
+        sign: (word >> 56) as u8,
     })
 }
 
 /// The count of an answer with no other part.
 fn count(word: u64) -> Result<u8, Refusal> {
-    let parts = parts(word)?.without_length().without_loose();
+    let parts = parts(word)?.alone();
     Ok(byte(parts.value))
 }
 
 /// The number of bytes written, of an answer with no other part.
 fn bytes_written(word: u64) -> Result<usize, Refusal> {
-    let parts = parts(word)?.without_length().without_loose();
+    let parts = parts(word)?.alone();
     Ok(parts.value as usize)
 }
 
 /// The part of a bundle whose place and length an answer says.
 fn part_of(bundle: &[u8], word: u64) -> Result<&[u8], Refusal> {
-    let parts = parts(word)?.without_loose();
+    let parts = parts(word)?.without_loose().without_sign();
     let start = parts.value as usize;
     Ok(&bundle[start..start + usize::from(parts.length)])
 }
 
 /// The count of a written sheet, and L.
 fn cuts(word: u64) -> Result<Cuts, Refusal> {
-    let parts = parts(word)?.without_length();
+    let parts = parts(word)?.without_length().without_sign();
     Ok(Cuts {
         count: byte(parts.value),
         loose: parts.loose,
     })
 }
 
-/// The count of a written gate list, its length, and L.
+/// The count of a written gate list, its length, L, and the sign.
 fn letters(word: u64) -> Result<Letters, Refusal> {
     let parts = parts(word)?;
+    assert!(parts.sign <= 1, "a sign is 0 or 1");
     Ok(Letters {
         count: byte(parts.value),
         letters: parts.length.into(),
         loose: parts.loose,
+        sign: parts.sign,
     })
 }
 
@@ -332,14 +371,23 @@ mod tests {
             count: 255,
             letters: 65535,
             loose: 0,
+            sign: 0,
         };
         assert_eq!(letters(65535 << 32 | 255 << 8), Ok(written));
         let loose = Letters {
             count: 28,
             letters: 1,
             loose: 255,
+            sign: 0,
         };
         assert_eq!(letters(255 << 48 | 1 << 32 | 28 << 8), Ok(loose));
+        let negative = Letters {
+            count: 0,
+            letters: 0,
+            loose: 0,
+            sign: 1,
+        };
+        assert_eq!(letters(1 << 56), Ok(negative));
         assert_eq!(letters(1), Err(Refusal::FileLength));
         let taken = Cuts {
             count: 28,
@@ -390,20 +438,50 @@ mod tests {
     }
 
     #[test]
-    #[should_panic(expected = "from bit 56 on")]
-    fn no_answer_has_bit_56() {
-        let _ = letters(1 << 56 | 28 << 8);
+    #[should_panic(expected = "no other part")]
+    fn a_refusal_has_no_sign() {
+        let _ = letters(1 << 56 | 6);
     }
 
     #[test]
-    #[should_panic(expected = "from bit 56 on")]
-    fn no_answer_has_bit_63() {
+    #[should_panic(expected = "a sign is 0 or 1")]
+    fn a_sign_is_not_2() {
+        let _ = letters(2 << 56 | 28 << 8);
+    }
+
+    #[test]
+    #[should_panic(expected = "a sign is 0 or 1")]
+    fn a_sign_has_no_bit_63() {
+        let _ = letters(129 << 56 | 28 << 8);
+    }
+
+    #[test]
+    #[should_panic(expected = "has a sign")]
+    fn a_sheet_has_no_sign_beside_it() {
+        let _ = cuts(1 << 56 | 28 << 8);
+    }
+
+    #[test]
+    #[should_panic(expected = "has a sign")]
+    fn a_count_has_no_sign() {
+        let _ = count(1 << 56 | 28 << 8);
+    }
+
+    #[test]
+    #[should_panic(expected = "has a sign")]
+    fn a_count_has_no_bit_63() {
         let _ = count(1 << 63 | 28 << 8);
     }
 
     #[test]
-    #[should_panic(expected = "from bit 56 on")]
-    fn no_part_has_bit_56() {
+    #[should_panic(expected = "has a sign")]
+    fn a_bundle_has_no_sign() {
+        let _ = bytes_written(1 << 56 | 2 << 8);
+    }
+
+    #[test]
+    #[should_panic(expected = "has a sign")]
+    fn a_part_has_no_sign() {
         let _ = part_of(&[0; 16], 1 << 56 | 8 << 32);
     }
 
@@ -489,6 +567,27 @@ mod tests {
                 sheet_to_operator(&sheet, &mut file),
                 Err(Refusal::SheetSign)
             );
+        }
+    }
+
+    #[test]
+    fn a_gate_list_has_a_sign() {
+        let identity = [64, 1, 2, 3, 4, 5, 6];
+        for sign in [0, 1] {
+            let mut file = [0; OPERATOR_BYTES];
+            let sheet = [&identity[..], &[sign]].concat();
+            assert_eq!(sheet_to_operator(&sheet, &mut file), Ok(0));
+            let mut list = [9; 256];
+            let empty = Letters {
+                count: 0,
+                letters: 0,
+                loose: 0,
+                sign,
+            };
+            assert_eq!(operator_to_gates(&file, &mut list), Ok(empty));
+            assert_eq!(list, [9; 256]);
+            let refused = operator_to_gates(&file, &mut list[..255]);
+            assert_eq!(refused, Err(Refusal::BufferTooShort));
         }
     }
 

@@ -15,6 +15,7 @@ pub mod operator;
 pub mod qasm;
 pub mod refusal;
 pub mod sheet;
+pub mod stretch;
 pub mod words;
 
 use std::cmp::Ordering;
@@ -34,6 +35,16 @@ pub struct Cuts {
     pub loose: u8,
 }
 
+/// What cutting an operator into gates answers: the count, the number of letters written, L as for a
+/// sheet, and the sign, 0 if the letters multiply to the operator and 1 if to its negative.
+#[derive(Clone, Copy, Debug, PartialEq, Eq)]
+pub struct Letters {
+    pub count: u8,
+    pub letters: usize,
+    pub loose: u8,
+    pub sign: u8,
+}
+
 /// Cuts an operator file into its sheet; answers the count and L.
 pub fn operator_to_sheet(file: &[u8], out: &mut [u8]) -> Result<Cuts, u8> {
     let (sheet, loose) = Sheet::cut_with_loose(Operator::read(file)?);
@@ -43,14 +54,18 @@ pub fn operator_to_sheet(file: &[u8], out: &mut [u8]) -> Result<Cuts, u8> {
     Ok(Cuts { count, loose })
 }
 
-/// Cuts an operator file into a gate list; answers the count and L, and the number of letters
-/// written.
-pub fn operator_to_gates(file: &[u8], out: &mut [u8]) -> Result<(Cuts, usize), u8> {
+/// Cuts an operator file into a gate list with the fewest Z in each stretch. Its letters multiply to the
+/// operator, or to its negative; the sign that is answered says to which.
+pub fn operator_to_gates(file: &[u8], out: &mut [u8]) -> Result<Letters, u8> {
     let (sheet, loose) = Sheet::cut_with_loose(Operator::read(file)?);
     let out = lend(out, LETTERS_PER_COUNT * (sheet.generators.len() + 1))?;
-    let letters = words::write_gates(&sheet, out);
-    let count = sheet.count();
-    Ok((Cuts { count, loose }, letters))
+    let (letters, sign) = words::write_gates(&sheet, out);
+    Ok(Letters {
+        count: sheet.count(),
+        letters,
+        loose,
+        sign,
+    })
 }
 
 /// Multiplies a gate list, writes the operator file and answers the operator's count.

@@ -72,6 +72,23 @@ impl Operator {
         }
     }
 
+    /// The operator with every sign turned.
+    pub fn negative(&self) -> Operator {
+        Operator {
+            matrix: matrix::scale(&self.matrix, -1),
+            exponent: self.exponent,
+        }
+    }
+
+    /// The operator if the sign is 0, its negative if it is 1.
+    pub fn with_sign(&self, sign: u8) -> Operator {
+        match sign {
+            0 => *self,
+            1 => self.negative(),
+            _ => panic!("a sign is 0 or 1"),
+        }
+    }
+
     /// The inverse of an orthogonal operator.
     pub fn inverse(&self) -> Operator {
         Operator {

@@ -142,8 +142,8 @@ fn signed(matrix: &Matrix, negative: bool) -> Matrix {
     scale(matrix, if negative { -1 } else { 1 })
 }
 
-/// The matrix that six column bytes describe.
-fn clifford(columns: &[u8; SIZE]) -> Operator {
+/// The matrix that six column bytes describe, at exponent 0, whether or not it is a Clifford.
+pub fn clifford(columns: &[u8; SIZE]) -> Operator {
     let row = |byte: u8| match byte.checked_sub(MINUS) {
         Some(row) => -i64::from(row),
         None => i64::from(byte),

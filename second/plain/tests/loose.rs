@@ -56,11 +56,7 @@ fn the_last_cut_is_forced() {
 #[test]
 fn the_negative_and_a_clifford_on_the_right_have_the_same() {
     for operator in walks::walks().flatten() {
-        let negative = Operator {
-            matrix: scale(&operator.matrix, -1),
-            exponent: operator.exponent,
-        };
-        assert_eq!(loose(&negative), loose(&operator));
+        assert_eq!(loose(&operator.negative()), loose(&operator));
         for &letter in &CLIFFORD_LETTERS {
             let letter = image(letter).expect("a letter of the table");
             assert_eq!(loose(&operator.times(letter)), loose(&operator));

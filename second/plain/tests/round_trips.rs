@@ -24,10 +24,12 @@ fn round_trip(operator: &Operator) -> u8 {
     assert_eq!(back, file);
 
     let mut list = vec![0; 256 * (usize::from(count) + 1)];
-    let (same_cuts, letters) = operator_to_gates(&file, &mut list).unwrap();
-    assert_eq!(same_cuts, cuts);
+    let written = operator_to_gates(&file, &mut list).unwrap();
+    assert_eq!((written.count, written.loose), (count, cuts.loose));
+    let list = &list[..written.letters];
     let mut back = [0; OPERATOR_BYTES];
-    assert_eq!(gates_to_operator(&list[..letters], &mut back), Ok(count));
+    assert_eq!(gates_to_operator(list, &mut back), Ok(count));
+    operator.with_sign(written.sign).write(&mut file);
     assert_eq!(back, file);
     count
 }

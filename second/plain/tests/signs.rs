@@ -6,21 +6,14 @@ mod walks;
 use std::collections::HashMap;
 
 use plain::gate::clifford;
-use plain::matrix::{scale, SIZE};
+use plain::matrix::SIZE;
 use plain::operator::{Operator, OPERATOR_BYTES};
-use plain::sheet::{Sheet, MINUS};
+use plain::sheet::{self, Sheet, MINUS};
 use plain::sheet_to_operator;
 use plain::words::Words;
 
 /// The number of Cliffords.
 const CLIFFORDS: usize = 23_040;
-
-fn negative(operator: &Operator) -> Operator {
-    Operator {
-        matrix: scale(&operator.matrix, -1),
-        exponent: operator.exponent,
-    }
-}
 
 /// The sheet's bytes before the last one, and the last one.
 fn sheet(operator: &Operator) -> (Vec<u8>, u8) {
@@ -46,9 +39,8 @@ fn file(operator: &Operator) -> [u8; OPERATOR_BYTES] {
 
 /// Every Clifford, whether its column 1 is positive or negative.
 fn cliffords() -> impl Iterator<Item = Operator> {
-    let bytes = Words::get().cliffords().map(|(columns, _)| columns);
-    let row = |byte: u8| i64::from(byte % MINUS) * if byte > MINUS { -1 } else { 1 };
-    bytes.map(move |columns| clifford(columns.map(row)))
+    let columns = Words::get().cliffords().map(|(columns, _)| columns);
+    columns.map(sheet::clifford)
 }
 
 /// The operator with every even number of its columns negated.
@@ -67,7 +59,7 @@ fn beginnings(operators: impl Iterator<Item = Operator>) -> usize {
     let mut beginnings = HashMap::new();
     let mut blocks = HashMap::new();
     for operator in operators {
-        let one_of_both = operator.matrix.max(negative(&operator).matrix);
+        let one_of_both = operator.matrix.max(operator.negative().matrix);
         let block = (operator.exponent, one_of_both);
         let (beginning, _) = sheet(&operator);
         let earlier = beginnings.entry(block).or_insert(beginning.clone());
@@ -82,9 +74,9 @@ fn beginnings(operators: impl Iterator<Item = Operator>) -> usize {
 fn the_negative_differs_in_the_last_byte_alone() {
     for operator in walks::walks().flatten().chain(cliffords()) {
         let (beginning, last) = sheet(&operator);
-        assert_eq!(sheet(&negative(&operator)), (beginning.clone(), 1 - last));
+        assert_eq!(sheet(&operator.negative()), (beginning.clone(), 1 - last));
         assert_eq!(read(&beginning, last), file(&operator));
-        assert_eq!(read(&beginning, 1 - last), file(&negative(&operator)));
+        assert_eq!(read(&beginning, 1 - last), file(&operator.negative()));
     }
 }
 

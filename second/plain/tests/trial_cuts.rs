@@ -1,5 +1,6 @@
 //! The cases of document 01, "Trial cuts", with the first byte of document 02, P4, the last byte of P2
-//! and the L of P3, the example of `cut`, in both directions, and the orders of document 02, P1.
+//! and the L of P3, the example of `cut`, in both directions, the sign of a gate list of P9, and the orders
+//! of document 02, P1.
 
 use plain::matrix::{scale, Matrix, IDENTITY};
 use plain::operator::{Operator, OPERATOR_BYTES};
@@ -39,7 +40,8 @@ fn file_of_list(list: &[u8]) -> [u8; OPERATOR_BYTES] {
     file
 }
 
-/// The operator has this sheet and this L, the sheet this operator, and its gate list leads back.
+/// The operator has this sheet and this L, the sheet this operator, and its gate list leads back to it or,
+/// where its sign says so, to its negative.
 fn assert_cut(file: &[u8], least: &[u8], sheet: &[u8], loose: u8) {
     let count = sheet.len() as u8 - 8;
     let cuts = Cuts { count, loose };
@@ -54,10 +56,13 @@ fn assert_cut(file: &[u8], least: &[u8], sheet: &[u8], loose: u8) {
     assert_eq!(back[OPERATOR_BYTES], UNTOUCHED);
 
     let mut list = vec![UNTOUCHED; 256 * (usize::from(count) + 1)];
-    let (gates_cuts, letters) = operator_to_gates(file, &mut list).unwrap();
-    assert_eq!(gates_cuts, cuts);
-    assert_eq!(file_of_list(&list[..letters]), least);
-    let cs_gates = list[..letters].iter().filter(|&&letter| letter == b'C');
+    let written = operator_to_gates(file, &mut list).unwrap();
+    assert_eq!((written.count, written.loose), (count, loose));
+    let list = &list[..written.letters];
+    let operator = Operator::read(file).expect("an accepted operator");
+    let said = operator.with_sign(written.sign);
+    assert_eq!(file_of_list(list), self::file(said.matrix, said.exponent));
+    let cs_gates = list.iter().filter(|&&letter| letter == b'C');
     assert_eq!(cs_gates.count(), usize::from(count));
 }
 

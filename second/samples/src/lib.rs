@@ -15,7 +15,7 @@ pub use walk::{Walk, LETTERS};
 
 use plain::gate;
 use plain::generator::GENERATORS;
-use plain::matrix::scale;
+use plain::matrix::{scale, SIZE};
 use plain::operator::{Operator, MAX_EXPONENT, OPERATOR_BYTES};
 use plain::sheet::Sheet;
 
@@ -31,6 +31,39 @@ pub fn clifford(random: &mut Random) -> Operator {
         columns[0] = -columns[0];
     }
     gate::clifford(columns)
+}
+
+/// How many Cliffords send none, one, two and three of the indices 1 to 3 to 4 to 6. There are (3 over m)
+/// squared choices of three rows for columns 1 to 3, m of them among 4 to 6, with 6 orders of these columns
+/// and 6 of the others, and 32 choices of signs that make the Clifford proper.
+pub const CLIFFORDS_BY_CROSSINGS: [usize; 4] = [1152, 10_368, 10_368, 1152];
+
+/// Every Clifford: the rows in every order, with all signs that make it proper.
+pub fn cliffords() -> impl Iterator<Item = Operator> {
+    let signed = |order: [i64; SIZE]| {
+        (0..1 << SIZE).map(move |negated: u32| {
+            let sign = |column: usize| if negated >> column & 1 == 1 { -1 } else { 1 };
+            gate::clifford(std::array::from_fn(|column| sign(column) * order[column]))
+        })
+    };
+    let all = orders().into_iter().flat_map(signed);
+    all.filter(Operator::is_proper)
+}
+
+/// The numbers 1 to 6 in every order.
+fn orders() -> Vec<[i64; SIZE]> {
+    let mut orders = vec![[1, 2, 3, 4, 5, 6]];
+    for first in 0..SIZE {
+        let swapped = |order: [i64; SIZE]| {
+            (first..SIZE).map(move |with| {
+                let mut order = order;
+                order.swap(first, with);
+                order
+            })
+        };
+        orders = orders.into_iter().flat_map(swapped).collect();
+    }
+    orders
 }
 
 /// An operator of the given count, at its least exponent: generators that each raise the exponent,
@@ -122,6 +155,7 @@ pub fn store(random: &mut Random) -> Vec<Vec<u8>> {
 mod tests {
     use super::*;
     use plain::sheet::MIN_SHEET;
+    use std::collections::HashSet;
 
     #[test]
     fn operators_have_the_wanted_count() {
@@ -134,6 +168,13 @@ mod tests {
             let sheet = sheet(&mut random, count);
             assert_eq!(sheet.len(), usize::from(count) + MIN_SHEET);
         }
+    }
+
+    #[test]
+    fn every_clifford_comes_once() {
+        let cliffords: HashSet<_> = cliffords().map(|clifford| clifford.matrix).collect();
+        assert_eq!(cliffords.len(), 23_040);
+        assert_eq!(super::cliffords().count(), cliffords.len());
     }
 
     #[test]

@@ -110,9 +110,9 @@ gates-fit b old new a p =
 
     some : fileRefusal b ≡ 0 → 256 * (fileCount b + 1) ≤ length old → Fit a
     some z l =
-        let (w, h) = p .handed z l in
+        let (w, s, h) = p .handed z l in
         let e = ap lettersOf (h .answer) in
-        let s = h .short in
+        let n = h .list .short in
         let t = count-small b z in
         (λ r. let x : _≡_ {A = ℕ} 0 1 = cc in omega arith, omega arith)
 

@@ -1,33 +1,43 @@
--- The number in the table is that of the stretch, whose word has at most 17 letters before C.
-use mathlib.Core.Path.{ap, _∙_}
+-- The number in the table has the stretch's letters below the place of its sign, at most 16 of them.
+use mathlib.Core.Path.{ap}
 use Prim.Native.Nat.{_+_, _*_, _-_}
+use native.Mathlib.Omega.{arith}
 use lib.ListN.{getD}
 use borrow.Author.Needs.{needs}
-use Rattle.gate_list.specs.List.{rightOf, stretch}
-use Rattle.gate_list.specs.Laws.Stretches.{stretch-code, stretch-short}
+use Rattle.letter.specs.Composition.{composed}
+use Rattle.gate_list.specs.List.{leftOf, rightOf, stretch}
+use Rattle.gate_list.specs.Laws.Stretches.{sign-small, stretch-short, code-letters, code-sign}
 use Rattle.gate_list.proofs.write_stretch.Statement.{statement}
 use Rattle.gate_list.proofs.write_stretch.Tie as tie
 
-sub-write-code : tie.Need-sub-write-code
-sub-write-code c = search needs
+sub-code : tie.Need-sub-code
+sub-code c = search needs
 
-mul-write-code : tie.Need-mul-write-code
-mul-write-code c = search needs
+mul-code : tie.Need-mul-code
+mul-code c = search needs
 
-sub-write-code-2 : tie.Need-sub-write-code-2
-sub-write-code-2 c = search needs
+sub-code-2 : tie.Need-sub-code-2
+sub-code-2 c = search needs
 
-add-write-code : tie.Need-add-write-code
-add-write-code c = search needs
+add-code : tie.Need-add-code
+add-code c = search needs
 
-mul-write-code-2 : tie.Need-mul-write-code-2
-mul-write-code-2 c = search needs
+mul-code-2 : tie.Need-mul-code-2
+mul-code-2 c = search needs
 
-element-copy-out-write-code : tie.Need-element-copy-out-write-code
-element-copy-out-write-code c = search needs
+element-copy-out-code : tie.Need-element-copy-out-code
+element-copy-out-code c = search needs
 
 write-code-requires : tie.Need-write-code-requires
 write-code-requires c κs = search needs
+
+cast-t18 : tie.Need-cast-t18
+cast-t18 c =
+    let s = c .before .before .before .before .before .before in
+    let g = s .args .g in
+    let h = s .args .h in
+    let e = code-sign g h (s .pre .0) (s .pre .1) (s .pre .2) (s .pre .3) _ (ap (λ l. getD l ((g - 1) * 15 + (h - 1)) 0) (s .pre .5)) in
+    rw e (record { fits = omega (arith, sign-small (composed (rightOf g) (leftOf h))) })
 
 same-length : tie.Need-same-length
 same-length c = search needs
@@ -37,20 +47,23 @@ returns c =
     let s = c .before .before .before .before .before .before in
     let g = s .args .g in
     let h = s .args .h in
-    c .before .before .write-code .ensures (stretch (rightOf g) h)
-    (ap (λ l. getD l ((g - 1) * 15 + (h - 1)) 0) (s .pre .5) ∙ stretch-code g h (s .pre .0) (s .pre .1) (s .pre .2) (s .pre .3))
-    (stretch-short g h (s .pre .0) (s .pre .1) (s .pre .2) (s .pre .3))
+    let e = ap (λ l. getD l ((g - 1) * 15 + (h - 1)) 0) (s .pre .5) in (
+      c .before .before .write-code .ensures (stretch (rightOf g) h) (code-letters g h (s .pre .0) (s .pre .1) (s .pre .2) (s .pre .3) _ e)
+          (stretch-short g h (s .pre .0) (s .pre .1) (s .pre .2) (s .pre .3)),
+      code-sign g h (s .pre .0) (s .pre .1) (s .pre .2) (s .pre .3) _ e,
+    )
 
 pub write-stretch-spec : {M : Type 1} → statement M
 write-stretch-spec =
     tie.close
     (tie.spec
-    sub-write-code
-    mul-write-code
-    sub-write-code-2
-    add-write-code
-    mul-write-code-2
-    element-copy-out-write-code
+    sub-code
+    mul-code
+    sub-code-2
+    add-code
+    mul-code-2
+    element-copy-out-code
     write-code-requires
+    cast-t18
     same-length
     returns)

@@ -1,76 +1,42 @@
--- The gate list of a normal form multiplies to it and has a letter C for each of its generators.
+-- The gate list of a normal form multiplies to it times its sign, has a letter C for each of its generators, and in each stretch the fewest letters Z.
 use mathlib.Core.Path.{_≡_, refl, sym, subst, _∙_}
 use mathlib.Core.Bool.{Bool, true, _&&_}
 use mathlib.Core.List.{List, [], _∷_, _++_}
-use Prim.Native.Nat.{ℕ, suc, _+_, _*_, _≤_}
+use Prim.Native.Nat.{ℕ, zero, suc, _+_, _*_, _%_, _<_, _≤_}
 use native.Mathlib.Omega.{arith}
-use lib.IntN.{ℤ}
+use lib.IntN.{ℤ, negsuc, _*ℤ_}
 use lib.ListN.{length, length-append}
 use Rattle.matrix.specs.Range.{sum, everyFrom, every}
 use Rattle.matrix.specs.Integer.{equals}
 use Rattle.matrix.specs.Matrix.{Matrix, Same, δ, product, entry}
-use Rattle.matrix.specs.Operator.{Operator, operator, timesOperator, SameOperator, Orthogonal, Proper, LeastExponent}
+use Rattle.matrix.specs.Operator.{Operator, operator, timesOperator, SameOperator, SameUpToSign, Orthogonal, Proper, LeastExponent}
 use Rattle.matrix.specs.Array.{everywhere}
 use Rattle.matrix.specs.Laws.Test.{left, right, T-true}
 use Rattle.matrix.specs.Laws.Integer.{equals-eq}
-use Rattle.matrix.specs.Laws.Matrix.{product-id-l, product-cong, same-refl}
+use Rattle.matrix.specs.Laws.Matrix.{product-id-l, product-id-r, product-cong, same-refl}
 use Rattle.matrix.specs.Laws.Operator.{same-operator-refl, same-operator-sym, same-operator-trans, same-operator-of, times-same, times-assoc, same-proper}
 use Rattle.matrix.specs.Laws.Array.{everywhere-sound}
-use Rattle.clifford.specs.Columns.{columnsMatrix, columnBytes, arePermutation, isEven}
-use Rattle.clifford.specs.Laws.Columns.{permutation-sound, permutation-complete, matrix-permutation, matrix-columns}
+use Rattle.clifford.specs.Columns.{columnsMatrix, columnBytes, timesSign, arePermutation, isEven}
+use Rattle.clifford.specs.Laws.Columns.{permutation-complete, matrix-permutation, matrix-columns}
+use Rattle.clifford.specs.Laws.Sign.{sign-same, sign-none, times-sign-r, times-signs, sign-least, sign-of-both}
 use Rattle.sign.specs.Laws.Sign.{proper-even}
 use Rattle.residue.specs.Generator.{table, place, generator}
 use Rattle.residue.specs.Laws.Table.{numbered}
 use Rattle.reduction.specs.Reduction.{count, taken, remaining, normalForm}
 use Rattle.reduction.specs.Laws.NormalForm.{Numbers, cutting, normal-form-same}
 use Rattle.letter.specs.declared.Gate.{Gate}
-use Rattle.letter.specs.declared.Gate.the-variants.{H1, H2, S1, S2, Cz, Cs}
-use Rattle.letter.specs.Gate.{wordMatrix, isCs, number}
+use Rattle.letter.specs.declared.Gate.the-variants.{Cz, Cs}
+use Rattle.letter.specs.Gate.{isCs}
 use Rattle.letter.specs.Composition.{composed, identityColumns}
-use Rattle.word.specs.Word.{cliffordWord}
-use Rattle.letter.specs.Laws.Matrix.{composed-matrix, composed-permutation, unit-matrix}
-use Rattle.word.specs.Laws.Word.{number-append, word-length, word-cs, word-matrix}
+use Rattle.word.specs.Word.{cliffordWord, wordSign}
+use Rattle.letter.specs.Laws.Matrix.{unit-matrix}
+use Rattle.word.specs.Laws.Word.{number-append, word-length, word-cs}
 use Rattle.gate.specs.Product.{image, productOf, MultipliesTo, csGates}
-use Rattle.gate_list.specs.List.{IsClifford, lefts, rights, leftOf, rightOf, generatorWord, stretches, gateList}
-use Rattle.gate.specs.Laws.Product.{product-append, product-proper, fewest}
-
--- ---- words without the letter C
-
-word-product : (w : List Gate) → number isCs w ≡ 0 → SameOperator (productOf w) (operator 0 (wordMatrix w))
-unfolding productOf wordMatrix image
-word-product [] n = same-operator-refl (operator 0 δ)
-word-product (H1 ∷ w) n = times-same (same-operator-refl (image H1)) (word-product w (omega arith))
-word-product (H2 ∷ w) n = times-same (same-operator-refl (image H2)) (word-product w (omega arith))
-word-product (S1 ∷ w) n = times-same (same-operator-refl (image S1)) (word-product w (omega arith))
-word-product (S2 ∷ w) n = times-same (same-operator-refl (image S2)) (word-product w (omega arith))
-word-product (Cz ∷ w) n = times-same (same-operator-refl (image Cz)) (word-product w (omega arith))
-word-product (Cs ∷ w) n = absurd (omega arith)
-
-abbrev clifford : List ℕ → Operator
-clifford bs = operator 0 (columnsMatrix bs)
-
-pub clifford-word : (bs : List ℕ) → IsClifford bs → MultipliesTo (cliffordWord bs) (operator 0 (columnsMatrix bs))
-clifford-word bs c = record {
-  same = same-operator-trans (word-product (cliffordWord bs) (word-cs bs))
-      (same-operator-of (operator 0 (wordMatrix (cliffordWord bs))) (clifford bs) refl (word-matrix bs (c .permutation) (c .even)));
-}
-
--- ---- the product of two Cliffords
-
-times-clifford : (bs cs : List ℕ) → IsClifford bs → IsClifford cs → SameOperator (timesOperator (clifford bs) (clifford cs)) (clifford (composed bs cs))
-times-clifford bs cs b c = same-operator-of (timesOperator (clifford bs) (clifford cs)) (clifford (composed bs cs)) refl (composed-matrix bs cs (b .permutation) (c .permutation))
-
-pub composed-clifford : (bs cs : List ℕ) → IsClifford bs → IsClifford cs → IsClifford (composed bs cs)
-composed-clifford bs cs b c =
-    let p = composed-permutation bs cs (b .permutation) (c .permutation) in
-    record {
-      permutation = p;
-      even = proper-even (composed bs cs) (permutation-sound (composed bs cs) p)
-          (same-proper
-          (same-operator-trans (product-append (cliffordWord bs) (cliffordWord cs))
-          (same-operator-trans (times-same (clifford-word bs b .same) (clifford-word cs c .same)) (times-clifford bs cs b c)))
-          (product-proper (cliffordWord bs ++ cliffordWord cs)));
-    }
+use Rattle.gate.specs.Laws.Product.{product-append, fewest}
+use Rattle.crossing.specs.Crossing.{EachStretch}
+use Rattle.crossing.specs.Laws.Stretch.{each-one, each-more}
+use Rattle.gate_list.specs.List.{IsClifford, lefts, rights, leftOf, rightOf, stretchSign, stretches, signs, gateList, listSign}
+use Rattle.gate_list.specs.Laws.Word.{clifford, clifford-word, times-clifford, composed-clifford, clifford-fewest}
 
 -- ---- the table
 
@@ -93,9 +59,10 @@ unfolding everyFrom cliffords arePermutation isEven leftOf rightOf lefts rights
 all-cliffords = refl
 
 module _ (g : ℕ) (l : 1 ≤ g) (u : g ≤ 15) where
-  split : SameOperator (operator 1 (generator g)) (timesOperator (clifford (leftOf g)) (timesOperator (operator 1 (generator 3)) (clifford (rightOf g))))
+  -- "Each is one CS between Cliffords"
+  pub generator-split : SameOperator (operator 1 (generator g)) (timesOperator (clifford (leftOf g)) (timesOperator (operator 1 (generator 3)) (clifford (rightOf g))))
   unfolding isSplit
-  split =
+  generator-split =
       same-operator-of (operator 1 (generator g)) (timesOperator (clifford (leftOf g)) (timesOperator (operator 1 (generator 3)) (clifford (rightOf g)))) refl
       (λ r c hr hc. equals-eq _ _ (everywhere-sound (λ r c. equals (generator g r c) (between g r c)) (T-true _ (numbered isSplit 15 all-split g l u)) r c hr hc))
 
@@ -109,23 +76,17 @@ module _ (g : ℕ) (l : 1 ≤ g) (u : g ≤ 15) where
         record { permutation = T-true _ (left (arePermutation (rightOf g)) _ b); even = T-true _ (right (arePermutation (rightOf g)) _ b) },
       )
 
-  -- the word of a Clifford, C, and a list
-  then-cs : (bs : List ℕ) → IsClifford bs → (v : List Gate) (B : Operator) → MultipliesTo v B
-      → SameOperator (productOf (cliffordWord bs ++ Cs ∷ v)) (timesOperator (clifford bs) (timesOperator (operator 1 (generator 3)) B))
-  unfolding productOf image
-  then-cs bs b v B m =
-      same-operator-trans (product-append (cliffordWord bs) (Cs ∷ v))
-      (times-same (clifford-word bs b .same) (times-same (same-operator-refl (operator 1 (generator 3))) (m .same)))
-
-  pub generator-word : MultipliesTo (generatorWord g) (operator 1 (generator g))
-  generator-word =
-      let (a, b) = both-cliffords in
-      record { same = same-operator-trans (then-cs (leftOf g) a (cliffordWord (rightOf g)) (clifford (rightOf g)) (clifford-word (rightOf g) b)) (same-operator-sym split) }
-
-  pub generator-word-cs : csGates (generatorWord g) ≡ 1
-  generator-word-cs = number-append isCs (cliffordWord (leftOf g)) (Cs ∷ cliffordWord (rightOf g)) ∙ rw (word-cs (leftOf g), word-cs (rightOf g))
-
 -- ---- the list
+
+-- the word of a Clifford, C, and a list
+then-cs : (bs : List ℕ) → IsClifford bs → (v : List Gate) (B : Operator) (t : ℕ) → SameOperator (productOf v) (timesSign (t % 2) B)
+    → SameOperator (productOf (cliffordWord bs ++ Cs ∷ v)) (timesSign ((wordSign bs + t) % 2) (timesOperator (clifford bs) (timesOperator (operator 1 (generator 3)) B)))
+unfolding productOf image
+then-cs bs b v B t m =
+    let C = operator 1 (generator 3) in
+    same-operator-trans (product-append (cliffordWord bs) (Cs ∷ v))
+    (same-operator-trans (times-same (clifford-word bs b) (same-operator-trans (times-same (same-operator-refl C) m) (times-sign-r (t % 2) C B)))
+    (times-signs (wordSign bs) t (clifford bs) (timesOperator C B)))
 
 -- (K L) (G (R N)) is K ((L (G R)) N)
 regrouped : (K L R N G : Operator) → SameOperator (timesOperator (timesOperator K L) (timesOperator G (timesOperator R N))) (timesOperator K (timesOperator (timesOperator L (timesOperator G R)) N))
@@ -141,24 +102,33 @@ numbers-tail : (g : ℕ) (gs : List ℕ) → Numbers (g ∷ gs) → Numbers gs
 numbers-tail g gs n i h = n (suc i) (omega arith)
 
 stretches-product : (bs gs cs : List ℕ) → IsClifford bs → Numbers gs → IsClifford cs
-    → MultipliesTo (stretches bs gs cs) (timesOperator (operator 0 (columnsMatrix bs)) (normalForm gs (columnsMatrix cs)))
-unfolding stretches normalForm
-stretches-product bs [] cs b n c = record {
-  same = same-operator-trans (clifford-word (composed bs cs) (composed-clifford bs cs b c) .same) (same-operator-sym (times-clifford bs cs b c));
-}
+    → SameOperator (productOf (stretches bs gs cs)) (timesSign (signs bs gs cs % 2) (timesOperator (clifford bs) (normalForm gs (columnsMatrix cs))))
+unfolding stretches signs normalForm
+stretches-product bs [] cs b n c =
+    same-operator-trans (clifford-word (composed bs cs) (composed-clifford bs cs b c)) (sign-same (wordSign (composed bs cs) % 2) (same-operator-sym (times-clifford bs cs b c)))
 stretches-product bs (g ∷ gs) cs b n c =
     let (l, u) = numbers-head g gs n in
     let (a, d) = both-cliffords g l u in
     let N = normalForm gs (columnsMatrix cs) in
     let C = operator 1 (generator 3) in
-    record {
-      same = same-operator-trans
-          (then-cs g l u (composed bs (leftOf g)) (composed-clifford bs (leftOf g) b a) (stretches (rightOf g) gs cs) (timesOperator (clifford (rightOf g)) N)
-          (stretches-product (rightOf g) gs cs d (numbers-tail g gs n) c))
-          (same-operator-trans (times-same (same-operator-sym (times-clifford bs (leftOf g) b a)) (same-operator-refl (timesOperator C (timesOperator (clifford (rightOf g)) N))))
-          (same-operator-trans (regrouped (clifford bs) (clifford (leftOf g)) (clifford (rightOf g)) N C)
-          (times-same (same-operator-refl (clifford bs)) (times-same (same-operator-sym (split g l u)) (same-operator-refl N)))));
-    }
+    let t = signs (rightOf g) gs cs in
+    same-operator-trans
+    (then-cs (composed bs (leftOf g)) (composed-clifford bs (leftOf g) b a) (stretches (rightOf g) gs cs) (timesOperator (clifford (rightOf g)) N) t
+    (stretches-product (rightOf g) gs cs d (numbers-tail g gs n) c))
+    (sign-same ((stretchSign bs g + t) % 2)
+    (same-operator-trans (times-same (same-operator-sym (times-clifford bs (leftOf g) b a)) (same-operator-refl (timesOperator C (timesOperator (clifford (rightOf g)) N))))
+    (same-operator-trans (regrouped (clifford bs) (clifford (leftOf g)) (clifford (rightOf g)) N C)
+    (times-same (same-operator-refl (clifford bs)) (times-same (same-operator-sym (generator-split g l u)) (same-operator-refl N))))))
+
+stretches-fewest : (bs gs cs : List ℕ) → IsClifford bs → Numbers gs → IsClifford cs → EachStretch (stretches bs gs cs)
+unfolding stretches
+stretches-fewest bs [] cs b n c = each-one (cliffordWord (composed bs cs)) (clifford-fewest (composed bs cs) (composed-clifford bs cs b c))
+stretches-fewest bs (g ∷ gs) cs b n c =
+    let (l, u) = numbers-head g gs n in
+    let (a, d) = both-cliffords g l u in
+    each-more (cliffordWord (composed bs (leftOf g))) (stretches (rightOf g) gs cs)
+    (clifford-fewest (composed bs (leftOf g)) (composed-clifford bs (leftOf g) b a))
+    (stretches-fewest (rightOf g) gs cs d (numbers-tail g gs n) c)
 
 stretches-cs : (bs gs cs : List ℕ) → csGates (stretches bs gs cs) ≡ length gs
 unfolding stretches
@@ -167,8 +137,8 @@ stretches-cs bs (g ∷ gs) cs =
     number-append isCs (cliffordWord (composed bs (leftOf g))) (Cs ∷ stretches (rightOf g) gs cs)
     ∙ rw (word-cs (composed bs (leftOf g)), stretches-cs (rightOf g) gs cs) (omega arith)
 
--- at most 23 letters between two letters C
-stretches-length : (bs gs cs : List ℕ) → length (stretches bs gs cs) ≤ 23 + 24 * length gs
+-- at most 21 letters between two letters C
+stretches-length : (bs gs cs : List ℕ) → length (stretches bs gs cs) ≤ 21 + 22 * length gs
 unfolding stretches
 stretches-length bs [] cs = word-length (composed bs cs)
 stretches-length bs (g ∷ gs) cs =
@@ -177,17 +147,21 @@ stretches-length bs (g ∷ gs) cs =
     let e = length-append (cliffordWord (composed bs (leftOf g))) (Cs ∷ stretches (rightOf g) gs cs) in
     omega arith
 
--- ---- the theorem: every proper orthogonal operator is the product of a list with exactly its least exponent many letters C
+-- ---- the theorem: every proper orthogonal operator or its negative is the product of a list with exactly its least exponent many letters C
 
 abbrev pub listOf : ℕ → List ℤ → List Gate
 listOf k m = gateList (taken k m) (columnBytes (entry (remaining k m)))
 
-pub record Listed (k : ℕ) (m : List ℤ) (w : List Gate) : Type 0 where
-  pub multiplies : MultipliesTo w (operator k (entry m))
+abbrev pub signOfList : ℕ → List ℤ → ℕ
+signOfList k m = listSign (taken k m) (columnBytes (entry (remaining k m)))
+
+pub record Listed (k : ℕ) (m : List ℤ) (w : List Gate) (s : ℕ) : Type 0 where
+  pub multiplies : MultipliesTo w (timesSign s (operator k (entry m)))
   pub exact : csGates w ≡ count k m
   pub least : LeastExponent (operator k (entry m)) (csGates w)
+  pub fewest : (v : List Gate) → SameUpToSign (productOf v) (operator k (entry m)) → csGates w ≤ csGates v
   pub short : length w ≤ 256 * (count k m + 1)
-  pub fewest : (v : List Gate) → MultipliesTo v (operator k (entry m)) → csGates w ≤ csGates v
+  pub stretches : EachStretch w
 
 pub identity-clifford : IsClifford identityColumns
 unfolding arePermutation isEven
@@ -199,7 +173,11 @@ identity-times A =
     same-operator-of (timesOperator (clifford identityColumns) A) A (omega arith)
     (λ r c hr hc. product-cong (λ r c hr hc. sym (unit-matrix r c hr hc)) (same-refl 6 (A .matrix)) r c hr hc ∙ product-id-l 6 (A .matrix) r c hr hc)
 
-pub list-of : (k : ℕ) (m : List ℤ) → Orthogonal (operator k (entry m)) → Proper (operator k (entry m)) → Listed k m (listOf k m)
+-- no list that multiplies to an operator or to its negative has fewer letters C than its least exponent
+fewest-both : {A : Operator} {l : ℕ} → LeastExponent A l → (v : List Gate) → SameUpToSign (productOf v) A → l ≤ csGates v
+fewest-both e v u = let (s, h) = sign-of-both u in fewest (sign-least s e) (record { same = h })
+
+pub list-of : (k : ℕ) (m : List ℤ) → Orthogonal (operator k (entry m)) → Proper (operator k (entry m)) → Listed k m (listOf k m) (signOfList k m)
 list-of k m o p =
     let c = cutting k m o in
     let cs = columnBytes (entry (remaining k m)) in
@@ -210,16 +188,47 @@ list-of k m o p =
       even = proper-even cs perm (same-proper (same-operator-sym (same-operator-of (clifford cs) (operator 0 (entry (remaining k m))) refl same)) (c .clifford p .proper));
     } in
     let e : csGates (listOf k m) ≡ count k m = stretches-cs identityColumns (taken k m) cs ∙ c .exact in
-    let m₁ : MultipliesTo (listOf k m) (operator k (entry m)) = record {
-      same = same-operator-trans (stretches-product identityColumns (taken k m) cs identity-clifford (c .numbers) clifford-cs .same)
-          (same-operator-trans (identity-times (normalForm (taken k m) (columnsMatrix cs)))
-          (same-operator-trans (normal-form-same (taken k m) (columnsMatrix cs) (entry (remaining k m)) same) (same-operator-sym (c .same))));
-    } in
     let l : LeastExponent (operator k (entry m)) (csGates (listOf k m)) = subst (λ n. LeastExponent (operator k (entry m)) n) (sym e) (c .least) in
     record {
-      multiplies = m₁;
+      multiplies = record {
+        same = same-operator-trans (stretches-product identityColumns (taken k m) cs identity-clifford (c .numbers) clifford-cs)
+            (sign-same (signOfList k m)
+            (same-operator-trans (identity-times (normalForm (taken k m) (columnsMatrix cs)))
+            (same-operator-trans (normal-form-same (taken k m) (columnsMatrix cs) (entry (remaining k m)) same) (same-operator-sym (c .same)))));
+      };
       exact = e;
       least = l;
+      fewest = fewest-both l;
       short = let a = stretches-length identityColumns (taken k m) cs in let b = c .exact in omega arith;
-      fewest = λ v h. Rattle.gate.specs.Laws.Product.fewest l h;
+      stretches = stretches-fewest identityColumns (taken k m) cs identity-clifford (c .numbers) clifford-cs;
     }
+
+-- ---- a list for the operator itself
+
+-- ZZ is −1
+double-z : everywhere (λ r c. equals (productOf (Cz ∷ Cz ∷ []) .matrix r c) (negsuc 0 *ℤ δ r c)) ≡ true
+unfolding everyFrom productOf image sum δ
+double-z = refl
+
+minus-one : SameOperator (productOf (Cz ∷ Cz ∷ [])) (timesSign 1 (operator 0 δ))
+unfolding productOf image
+minus-one =
+    same-operator-of (productOf (Cz ∷ Cz ∷ [])) (timesSign 1 (operator 0 δ)) refl
+    (λ r c hr hc. equals-eq _ _ (everywhere-sound (λ r c. equals (productOf (Cz ∷ Cz ∷ []) .matrix r c) (negsuc 0 *ℤ δ r c)) double-z r c hr hc))
+
+-- a list for the negative, with ZZ behind it
+pub turned-list : {A : Operator} {w : List Gate} → MultipliesTo w (timesSign 1 A) → MultipliesTo (w ++ Cz ∷ Cz ∷ []) A
+turned-list {A} {w} h = record {
+  same = same-operator-trans (product-append w (Cz ∷ Cz ∷ []))
+      (same-operator-trans (times-same (h .same) minus-one)
+      (same-operator-trans (times-signs 1 1 A (operator 0 δ))
+      (same-operator-trans (sign-none (timesOperator A (operator 0 δ))) (same-operator-of (timesOperator A (operator 0 δ)) A (omega arith) (product-id-r 6 (A .matrix))))));
+}
+
+pub some-list : (k : ℕ) (m : List ℤ) → Orthogonal (operator k (entry m)) → Proper (operator k (entry m)) → (w : List Gate) × MultipliesTo w (operator k (entry m))
+some-list k m o p = go (signOfList k m) (omega arith) (list-of k m o p .multiplies)
+  where
+    go : (s : ℕ) → s < 2 → MultipliesTo (listOf k m) (timesSign s (operator k (entry m))) → (w : List Gate) × MultipliesTo w (operator k (entry m))
+    go zero l h = (listOf k m, record { same = same-operator-trans (h .same) (sign-none (operator k (entry m))) })
+    go (suc zero) l h = (listOf k m ++ Cz ∷ Cz ∷ [], turned-list h)
+    go (suc (suc s)) l h = absurd (omega arith)

@@ -1,7 +1,7 @@
 -- Signed permutations and the bytes of their columns: six bytes that are a permutation come from the data type, and the product by bytes
 -- is the product.
-use mathlib.Core.Path.{_≡_, refl, subst}
-use mathlib.Core.Bool.{Bool, true, false, _&&_, _||_}
+use mathlib.Core.Path.{_≡_, refl, sym, subst}
+use mathlib.Core.Bool.{Bool, true, false, cond, _&&_, _||_}
 use mathlib.Core.List.{List, [], _∷_}
 use Prim.Native.Nat.{ℕ, zero, suc, _+_, _-_, _<_, _≤_}
 use native.Mathlib.Omega.{arith}
@@ -9,9 +9,9 @@ use lib.Dec.{eqb, leb}
 use lib.ListN.{getD, length}
 use borrow.Author.Tests.{eqb-true, leb-true}
 use Rattle.clifford.specs.Laws.Columns.{columns-valid}
-use Rattle.clifford.specs.Columns.{rowOf, negated, isColumnByte, areColumnBytes, arePermutation}
+use Rattle.clifford.specs.Columns.{rowOf, negated, signed, isColumnByte, areColumnBytes, arePermutation}
 use Rattle.letter.specs.Composition.{imageOf, composed}
-use Rattle.letter.specs.Laws.Signed.{Axis, e1, e2, e3, e4, e5, e6, Column, col, Perm, perm, turned, apply, times, rowNumber, toByte, fromByte, bytes, fromBytes}
+use Rattle.letter.specs.Laws.Signed.{Axis, e1, e2, e3, e4, e5, e6, Column, col, Perm, perm, turned, apply, times, rowNumber, toByte, fromByte, bytes, fromBytes, turnedAll}
 use Rattle.matrix.specs.Laws.Test.{and-left, and-right}
 use Rattle.letter.specs.Laws.Every.{everyBool, everyAxis, everyColumn, every-column}
 
@@ -20,6 +20,10 @@ axisOf (col s a) = a
 
 abbrev pub signOf : Column → Bool
 signOf (col s a) = s
+
+pub axis-turned : (s : Bool) (c : Column) → axisOf (turned s c) ≡ axisOf c
+axis-turned true c = refl
+axis-turned false (col s a) = refl
 
 -- ---- one byte
 
@@ -113,6 +117,12 @@ bytes-from bs p = go bs (eqb-true (length bs) 6 (and-left (eqb (length bs) 6) _ 
 
 pub six : (g : Perm) → length (bytes g) ≡ 6
 six (perm a b c d e f) = refl
+
+-- all columns times a sign
+pub turned-bytes : (s : Bool) (g : Perm) → bytes (turnedAll s g) ≡ signed (cond s 0 1) (bytes g)
+turned-bytes true (perm a b c d e f) = refl
+turned-bytes false (perm a b c d e f) =
+    sym λ i. negated-byte a i ∷ negated-byte b i ∷ negated-byte c i ∷ negated-byte d i ∷ negated-byte e i ∷ negated-byte f i ∷ []
 
 pub bytes-valid : (g : Perm) → areColumnBytes (bytes g) ≡ true
 bytes-valid (perm a b c d e f) = simp byte-valid

@@ -41,10 +41,6 @@ times g (perm a b c d e f) = perm (apply g a) (apply g b) (apply g c) (apply g d
 abbrev pub unit : Perm
 unit = perm (col true e1) (col true e2) (col true e3) (col true e4) (col true e5) (col true e6)
 
--- −1
-abbrev pub minus : Perm
-minus = perm (col false e1) (col false e2) (col false e3) (col false e4) (col false e5) (col false e6)
-
 -- ---- bytes
 
 abbrev pub rowNumber : Axis → ℕ
@@ -136,35 +132,27 @@ evaluated-append [] v = sym (unit-times (evaluated v))
 evaluated-append (x ∷ u) v =
     ap (times (fromBytes (columns x))) (evaluated-append u v) ∙ sym (times-assoc (fromBytes (columns x)) (evaluated u) (evaluated v))
 
--- ---- the sign −1
+-- ---- a sign
 
 abbrev pub turnedAll : Bool → Perm → Perm
 turnedAll s (perm a b c d e f) = perm (turned s a) (turned s b) (turned s c) (turned s d) (turned s e) (turned s f)
 
--- −1 on the right, and −1 on the left
-pub times-minus : (g : Perm) → times g minus ≡ turnedAll false g
-times-minus (perm a b c d e f) = refl
-
-minus-times : (g : Perm) → times minus g ≡ turnedAll false g
-minus-times (perm a b c d e f) = perm-path (at a) (at b) (at c) (at d) (at e) (at f)
+-- it comes out of a product
+pub times-turned : (s : Bool) (g h : Perm) → times (turnedAll s g) h ≡ turnedAll s (times g h)
+times-turned s g (perm a b c d e f) = perm-path (at g a) (at g b) (at g c) (at g d) (at g e) (at g f)
   where
-    at : (c : Column) → apply minus c ≡ turned false c
-    at (col s a) = ap (turned s) (same a) ∙ flip s
-      where
-        same : (a : Axis) → image minus a ≡ col false a
-        same e1 = refl
-        same e2 = refl
-        same e3 = refl
-        same e4 = refl
-        same e5 = refl
-        same e6 = refl
+    both : (t : Bool) (s : Bool) (c : Column) → turned t (turned s c) ≡ turned s (turned t c)
+    both true s c = refl
+    both false true c = refl
+    both false false c = refl
 
-        flip : (s : Bool) → turned s (col false a) ≡ col (not s) a
-        flip true = refl
-        flip false = refl
+    same : (g : Perm) (a : Axis) → image (turnedAll s g) a ≡ turned s (image g a)
+    same (perm a b c d e f) e1 = refl
+    same (perm a b c d e f) e2 = refl
+    same (perm a b c d e f) e3 = refl
+    same (perm a b c d e f) e4 = refl
+    same (perm a b c d e f) e5 = refl
+    same (perm a b c d e f) e6 = refl
 
-pub minus-commutes : (g : Perm) → times g minus ≡ times minus g
-minus-commutes g = times-minus g ∙ sym (minus-times g)
-
-pub turned-all-twice : (g : Perm) → turnedAll false (turnedAll false g) ≡ g
-turned-all-twice (perm a b c d e f) = perm-path (turned-twice a) (turned-twice b) (turned-twice c) (turned-twice d) (turned-twice e) (turned-twice f)
+    at : (g : Perm) (c : Column) → apply (turnedAll s g) c ≡ turned s (apply g c)
+    at g (col t a) = ap (turned t) (same g a) ∙ both t s (image g a)

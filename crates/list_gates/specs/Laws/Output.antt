@@ -15,26 +15,26 @@ use Rattle.acceptance.specs.Acceptance.{fileRefusal}
 use Rattle.acceptance.specs.Cutting.{fileCount, fileLoose}
 use Rattle.operator.specs.Promise.{Handed, GatesPromise}
 use Rattle.operator.specs.Laws.Promise.{count-small}
-use Rattle.text.specs.Text.{countWord, looseWord, countLine, gatesLine, looseLine, refusedLine}
+use Rattle.text.specs.Text.{countWord, looseWord, signWord, countLine, gatesLine, looseLine, signLine, refusedLine}
 use Rattle.text.specs.Laws.Text.{line-length}
 use Rattle.list_gates.specs.Output.{ListText}
 
--- after a count, a number of letters and L
-pub record Lettered (b new : List ℕ) (t n l : ℕ) : Type 0 where
+-- after a count, a number of letters, L and a sign
+pub record Lettered (b new : List ℕ) (t n l s : ℕ) : Type 0 where
   pub long : n ≤ length new
-  pub text : ListText b (countLine t ++ gatesLine (take n new) ++ looseLine l)
-  -- room for the three lines
-  pub room : length (countLine t) + length (gatesLine (take n new)) + length (looseLine l) ≤ 8192
+  pub text : ListText b (countLine t ++ gatesLine (take n new) ++ looseLine l ++ signLine s)
+  -- room for the four lines
+  pub room : length (countLine t) + length (gatesLine (take n new)) + length (looseLine l) + length (signLine s) ≤ 8192
 
 module _ (b old new : List ℕ) (a : Listed) (room : 7424 ≤ length old) (p : GatesPromise b old new a) where
-  handed : (z : fileRefusal b ≡ 0) → (w : List Gate) × Handed b old new a w
+  handed : (z : fileRefusal b ≡ 0) → (w : List Gate) × (s : ℕ) × Handed b old new a w s
   handed z = let k = count-small b z in p .handed z (omega arith)
 
-  done : (z : fileRefusal b ≡ 0) (w : List Gate) → Handed b old new a w → (t n l : ℕ) → t ≡ fileCount b → n ≡ length w → l ≡ fileLoose b → Lettered b new t n l
+  done : (z : fileRefusal b ≡ 0) (w : List Gate) (r : ℕ) → Handed b old new a w r → (t n l s : ℕ) → t ≡ fileCount b → n ≡ length w → l ≡ fileLoose b → s ≡ r → Lettered b new t n l s
   unfolding written
-  done z w h t n l e f q =
+  done z w r h t n l s e f q x =
       let k = count-small b z in
-      let s = h .short in
+      let c = h .list .short in
       let m : length (map letter w) ≡ n = length-map w letter ∙ sym f in
       let o = ap length (h .buffer) ∙ length-append (map letter w) (drop (length (map letter w)) old) in
       let g : take n new ≡ map letter w = ap (take n) (h .buffer) ∙ take-at (map letter w) (drop (length (map letter w)) old) n m in
@@ -44,23 +44,21 @@ module _ (b old new : List ℕ) (a : Listed) (room : 7424 ≤ length old) (p : G
             let i = line-length countWord (t ∷ []) in
             let j = length-append (take n new) (10 ∷ []) in
             let p = line-length looseWord (l ∷ []) in
+            let y = line-length signWord (s ∷ []) in
             let u = length-take-le n new (omega arith) in
             omega arith;
-        text = record {
-          refused = λ x. absurd (x z);
-          listed = λ _. (w, (cc (e, g, q)), record { multiplies = h .multiplies; exact = h .exact; fewest = h .fewest });
-        };
+        text = record { refused = λ y. absurd (y z); listed = λ _. (w, r, (cc (e, g, q, x)), h .list) };
       }
 
-  pub lettered : (t n l : ℕ) → a ≡ Letters t n l → Lettered b new t n l
-  lettered t n l e = elim (ℕ-discrete (fileRefusal b) 0) [
-    | yes z ↦ let (w, h) = handed z in let f = h .answer in done z w h t n l (cc) (cc) (cc)
+  pub lettered : (t n l s : ℕ) → a ≡ Letters t n l s → Lettered b new t n l s
+  lettered t n l s e = elim (ℕ-discrete (fileRefusal b) 0) [
+    | yes z ↦ let (w, r, h) = handed z in let f = h .answer in done z w r h t n l s (cc) (cc) (cc) (cc)
     | no x ↦ let f = p .refused x .0 in let y : _≡_ {A = ℕ} 0 1 = cc in absurd (omega arith)
   ]
 
   -- after a refusal
   pub refused : (n : ℕ) → a ≡ Refused n → ListText b (refusedLine n)
   refused n e = elim (ℕ-discrete (fileRefusal b) 0) [
-    | yes z ↦ let (w, h) = handed z in let f = h .answer in let y : _≡_ {A = ℕ} 0 1 = cc in absurd (omega arith)
+    | yes z ↦ let (w, r, h) = handed z in let f = h .answer in let y : _≡_ {A = ℕ} 0 1 = cc in absurd (omega arith)
     | no x ↦ let f = p .refused x .0 in let y : n ≡ fileRefusal b = cc in record { refused = λ _. ap refusedLine y; listed = λ z. absurd (x z) }
   ]

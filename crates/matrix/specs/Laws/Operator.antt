@@ -13,7 +13,7 @@ use Rattle.matrix.specs.Range.{sum}
 use Rattle.matrix.specs.Matrix.{Matrix, Same, δ, scaled, rowProduct}
 use Rattle.matrix.specs.Determinant.{det}
 use Rattle.matrix.specs.Operator.{Surd, whole, root, raised, Equal, Operator, operator, SameOperator, timesOperator, negative, Orthogonal, Proper, LeastExponent, Reduced}
-use Rattle.matrix.specs.Laws.Integer.{+ℤ-swap, *ℤ-distr-r, *ℤ-distr-l, *ℤ-unit-l, *ℤ-unit-r, *ℤ-left-comm, *ℤ-cancel-l, pos-nz, double-cancel, positive-of-times, times-positive, square-size}
+use Rattle.matrix.specs.Laws.Integer.{+ℤ-swap, *ℤ-distr-r, *ℤ-distr-l, *ℤ-unit-l, *ℤ-unit-r, *ℤ-left-comm, *ℤ-cancel-l, pos-nz, double-cancel, self-neg, minus-one-*ℤ, positive-of-times, times-positive, square-size}
 use Rattle.matrix.specs.Laws.Ring.{var, num, _:+_, _:*_, ring}
 use Rattle.matrix.specs.Laws.Sum.{sum-cong, sum-zero, term-le-sum, δ-same}
 use Rattle.matrix.specs.Laws.Matrix.{product-assoc, orthogonal-product}
@@ -81,7 +81,7 @@ raised-twice (suc d) x =
 
 -- ---- equal entries
 
-equal-times : (k l : ℕ) (s a b : ℤ) → Equal k a l b → Equal k (s *ℤ a) l (s *ℤ b)
+pub equal-times : (k l : ℕ) (s a b : ℤ) → Equal k a l b → Equal k (s *ℤ a) l (s *ℤ b)
 equal-times k l s a b e =
     ap (λ z. raised l (s *ℤ a, z)) (sym (*ℤ-zero s)) ∙ raised-times l s (whole a) ∙ ap (times s) e ∙ sym (raised-times k s (whole b))
     ∙ ap (λ z. raised k (s *ℤ b, z)) (*ℤ-zero s)
@@ -251,6 +251,14 @@ not-zero {A} o z =
     sym (o .rows 0 0 (omega arith) (omega arith) ∙ ap (λ x. pos (2 ^ A .exponent) *ℤ x) (δ-same 0) ∙ *ℤ-unit-r (pos (2 ^ A .exponent)))
     ∙ sum-cong (λ c hc. ap (λ x. x *ℤ A .matrix 0 c) (z 0 c (omega arith) hc) ∙ zero-*ℤ (A .matrix 0 c)) ∙ sum-zero 6 in
     pos-nz (2 ^ A .exponent) (pow-pos (A .exponent)) e
+
+-- an operator is not its own negative
+pub not-negative : {A : Operator} → Orthogonal A → SameOperator A (negative A) → ⊥
+not-negative {A} o h =
+    not-zero o
+    (λ i j hi hj.
+    self-neg (A .matrix i j)
+    (ap (λ z. z .0) (raised-inj (A .exponent) (whole (A .matrix i j)) (whole (negsuc 0 *ℤ A .matrix i j)) (h .entries i j hi hj)) ∙ minus-one-*ℤ (A .matrix i j)))
 
 -- a reduced pair has the smallest exponent of all that stand for its matrix
 reduced-below : {A B : Operator} → Orthogonal A → Reduced A → SameOperator A B → A .exponent ≤ B .exponent

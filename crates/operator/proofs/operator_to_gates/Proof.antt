@@ -37,7 +37,7 @@ same-length : tie.Need-same-length
 same-length c = search needs
 
 returns-3 : tie.Need-returns-3
-returns-3 c = gates-done (now (c .before .before .before .before .before .before .before .before .before .before .before .args .bytes)) (now (c .before .before .before .before .before .before .before .before .before .before .before .args .out)) (c .before .before .before .before .before .before .before .before .cut-file .result) (c .before .before .before .before .before .before .before .before .cut-file .ensures) _ _ (c .before .before .before .before .before .before .before .if1 .left) (c .before .before .before .before .if2 .left) (c .before .before .write-list .ensures)
+returns-3 c = gates-done (now (c .before .before .before .before .before .before .before .before .before .before .before .args .bytes)) (now (c .before .before .before .before .before .before .before .before .before .before .before .args .out)) (c .before .before .before .before .before .before .before .before .cut-file .result) (c .before .before .before .before .before .before .before .before .cut-file .ensures) _ _ _ (c .before .before .before .before .before .before .before .if1 .left) (c .before .before .before .before .if2 .left) (c .before .before .write-list .ensures .0) (c .before .before .write-list .ensures .1)
 
 pub operator-to-gates-spec : {M : Type 1} → statement M
 operator-to-gates-spec =

@@ -12,15 +12,14 @@ use Rattle.file.specs.File.{largestExponent, fileLength, fileExponent, fileMatr
 use Rattle.letter.specs.declared.Gate.{Gate}
 use Rattle.gate.specs.Product.{MultipliesTo}
 use Rattle.gate.specs.Laws.Product.{multiplied-orthogonal, multiplied-proper}
-use Rattle.gate_list.specs.Laws.List.{listOf, list-of}
+use Rattle.gate_list.specs.Laws.List.{some-list}
 use Rattle.acceptance.specs.Acceptance.{isProper, fileRefusal}
 use Rattle.operator.specs.Promise.{ForEntries, ExactlyRefused}
 use Rattle.acceptance.specs.Laws.Acceptance.{accepted, entries-complete, in-form}
 
 pub accepted-multiplies : (b : List ℕ) → fileRefusal b ≡ 0 → (w : List Gate) × MultipliesTo w (fileOperator b)
 accepted-multiplies b z =
-    let a = accepted b z .entries in
-    (listOf (fileExponent b) (fileMatrix b), list-of (fileExponent b) (fileMatrix b) (a .orthogonal) (a .proper) .multiplies)
+    let a = accepted b z .entries in some-list (fileExponent b) (fileMatrix b) (a .orthogonal) (a .proper)
 
 pub multiplies-accepted : (b : List ℕ) → length b ≡ fileLength → fileExponent b ≤ largestExponent → (w : List Gate) → MultipliesTo w (fileOperator b) → fileRefusal b ≡ 0
 multiplies-accepted b l r w m =

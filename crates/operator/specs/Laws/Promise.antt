@@ -13,14 +13,16 @@ use Rattle.matrix.specs.Operator.{SameOperator}
 use Rattle.matrix.specs.Laws.Array.{least-form}
 use borrow.Author.Tests.{eq-eqb, ne-eqb, lt-ltb, le-ltb}
 use Rattle.file.specs.File.{written, largestExponent, fileExponent, fileMatrix, fileOperator}
-use Rattle.clifford.specs.Columns.{areColumnBytes}
+use Rattle.clifford.specs.Columns.{areColumnBytes, timesSign}
 use Rattle.clifford.specs.Laws.Columns.{matrix-permutation, permutation-complete, columns-valid}
+use Rattle.clifford.specs.Laws.Sign.{sign-follows}
 use Rattle.reduction.specs.Reduction.{remaining}
 use Rattle.reduction.specs.Laws.NormalForm.{Cutting, cutting}
 use Rattle.letter.specs.Gate.{letter}
 use Rattle.letter.specs.Written.{Written}
-use Rattle.gate_list.specs.List.{gateList}
-use Rattle.gate_list.specs.Laws.List.{listOf, list-of}
+use Rattle.gate.specs.Product.{MultipliesTo}
+use Rattle.gate_list.specs.List.{gateList, listSign}
+use Rattle.gate_list.specs.Laws.List.{listOf, signOfList, list-of}
 use Rattle.sheet_bytes.specs.Bytes.{shortest, sheetBytes, sheet, sheetOperator}
 use Rattle.sheet_bytes.specs.Laws.Sheet.{length-sheet, sheet-back}
 use Rattle.sheet_bytes.specs.Laws.Count.{sheet-first}
@@ -145,29 +147,38 @@ module _ (b old : List ℕ) (r : Cut) (c : CutOf b r) where
         exactly = six (y .accepted);
       }
 
-  pub gates-done : (new : List ℕ) (n : ℕ) → r .refusal ≡ 0 → 256 * (r .count + 1) ≤ length old → Written (gateList (take (r .count) (r .numbers)) (r .columns)) 0 old new n
-      → GatesPromise b old new (listed.the-variants.Letters (r .count) n (r .loose))
+  pub gates-done : (new : List ℕ) (n s : ℕ) → r .refusal ≡ 0 → 256 * (r .count + 1) ≤ length old → Written (gateList (take (r .count) (r .numbers)) (r .columns)) 0 old new n
+      → s ≡ listSign (take (r .count) (r .numbers)) (r .columns) → GatesPromise b old new (listed.the-variants.Letters (r .count) n (r .loose) s)
   unfolding written
-  gates-done new n e h k =
+  gates-done new n s e h k q =
       let y = ready b r c e in
       let t = y .count in
       let a = accepted b (y .accepted) .entries in
       let g = list-of (fileExponent b) (fileMatrix b) (a .orthogonal) (a .proper) in
       let w = listOf (fileExponent b) (fileMatrix b) in
       let v : Written w 0 old new n = subst (λ x. Written x 0 old new n) (ap₂ gateList (y .numbers) (y .columns)) k in
+      let f : signOfList (fileExponent b) (fileMatrix b) ≡ s = sym (q ∙ ap₂ listSign (y .numbers) (y .columns)) in
+      let small : s ≤ 1 = omega arith in
+      let m : MultipliesTo w (timesSign s (fileOperator b)) = subst (λ x. MultipliesTo w (timesSign x (fileOperator b))) f (g .multiplies) in
       record {
         refused = λ n. absurd (n (y .accepted));
         no-room = λ z l. absurd (omega arith);
         handed = λ z l. (
           w,
+          s,
           record {
             buffer = v .buffer ∙ ap (λ x. map letter w ++ drop x old) (zero-add (length w) ∙ sym (length-map w letter));
             answer = let e = v .next ∙ zero-add (length w) in cc (t, e, y .loose);
-            multiplies = g .multiplies;
-            exact = g .exact;
-            least = file-cutting b (y .accepted) .least;
-            fewest = g .fewest;
-            short = g .short;
+            list = record {
+              multiplies = m;
+              small = small;
+              follows = λ x l p. sign-follows x s l small (a .orthogonal) (p .same) (m .same);
+              exact = g .exact;
+              least = file-cutting b (y .accepted) .least;
+              fewest = g .fewest;
+              short = g .short;
+              stretches = g .stretches;
+            };
           },
         );
         exactly = none (y .accepted);

@@ -51,8 +51,3 @@ text-means bs w e =
 -- the text of a list means what the list multiplies to
 pub means-list : (w : List Gate) → MultipliesTo w (meaning (textOf w))
 means-list w = text-means (textOf w) w (read-text w)
-
--- from text to text: where the letters of a text, and another list, multiply to one operator, the text of that list means what the first text means
-pub same-meaning : (bs : List ℕ) (w v : List Gate) (A : Operator) → readText bs ≡ gates w → MultipliesTo w A → MultipliesTo v A → SameOperator (meaning bs) (meaning (textOf v))
-same-meaning bs w v A e m n =
-    same-operator-trans (same-operator-sym (text-means bs w e .same)) (same-operator-trans (m .same) (same-operator-trans (same-operator-sym (n .same)) (means-list v .same)))

@@ -9,12 +9,12 @@ use lib.Seq.{take-at, drop-at, getD-at, length-take-le}
 use Rattle.matrix.specs.Matrix.{Same, scaled}
 use Rattle.matrix.specs.Operator.{SameOperator}
 use Rattle.matrix.specs.Laws.Operator.{same-operator-of}
-use Rattle.clifford.specs.Columns.{columnsMatrix, isMinus, signOf, signedByte, signed}
+use Rattle.clifford.specs.Columns.{columnsMatrix, isMinus, signOf, timesSign, signedByte, signed}
 use Rattle.clifford.specs.Laws.Columns.{Permutation}
 use Rattle.clifford.specs.Laws.Signed.{negated-minus, signed-at, signed-permutation, signed-matrix, signed-twice}
 use Rattle.reduction.specs.Reduction.{normalForm}
 use Rattle.reduction.specs.Laws.NormalForm.{normal-exponent, normal-cong, normal-scaled}
-use Rattle.sheet_bytes.specs.Bytes.{shortest, countByte, signByte, writtenColumns, sheetBytes, sheetNumbers, sheetColumns, sheetSign, timesSign, sheetOperator, beforeSign}
+use Rattle.sheet_bytes.specs.Bytes.{shortest, countByte, signByte, writtenColumns, sheetBytes, sheetNumbers, sheetColumns, sheetSign, sheetOperator, beforeSign}
 
 -- ---- the parts
 

@@ -1,4 +1,4 @@
--- Every proper signed permutation is what its word multiplies to.
+-- Every proper signed permutation is what its word multiplies to, times a sign.
 use mathlib.Core.Path.{_≡_, refl, sym, ap, ap₂, subst, _∙_}
 use mathlib.Core.Bool.{Bool, true, false, not}
 use mathlib.Core.List.{List, [], _++_, map}
@@ -8,11 +8,11 @@ use lib.Dec.{eqb}
 use lib.ListN.{getD}
 use Rattle.clifford.specs.Columns.{different, inversions, isEven}
 use Rattle.letter.specs.declared.Gate.{Gate}
-use Rattle.word.specs.Word.{bit, firstPart, secondPart, partWords, partInverses, localColumns, rotationOf, onSecond, isEvenHalf, rotationsOf, unsignedWord, signWord, cliffordWord}
+use Rattle.word.specs.Word.{bit, firstPart, secondPart, partWords, partInverses, localColumns, rotationOf, onSecond, isEvenHalf, halvesEven, rotationsOf, cliffordWord}
 use Rattle.letter.specs.Composition.{composed}
-use Rattle.letter.specs.Laws.Signed.{Axis, e1, e2, e3, e4, e5, e6, Column, col, Perm, perm, turned, apply, times, toByte, bytes, evaluated, times-assoc, times-unit, unit-times, evaluated-append, turnedAll, times-minus, minus-commutes, turned-all-twice}
+use Rattle.letter.specs.Laws.Signed.{Axis, e1, e2, e3, e4, e5, e6, Column, col, Perm, perm, turned, apply, times, toByte, bytes, evaluated, times-assoc, times-unit, unit-times, evaluated-append, turnedAll, times-turned}
 use Rattle.matrix.specs.Laws.Test.{and-left, and-right}
-use Rattle.letter.specs.Laws.Bytes.{axisOf, signOf, row-byte, composed-bytes}
+use Rattle.letter.specs.Laws.Bytes.{axisOf, signOf, axis-turned, row-byte, composed-bytes}
 use Rattle.word.specs.Laws.Finite.{minus-byte, bit-le, axes, signs, rows, minusSigns, axes-times, inverse, inverse-bytes, inverse-part, minus-signs, lowAxis, lowAxes, firstAxes, secondAxes, localAxes, isLowHalf, isHighHalf, inversions3, Split, split, isEven3, lowRotation, highRotation, low-rotation, high-rotation}
 
 -- ---- the columns that are left
@@ -63,20 +63,8 @@ high-fixed a b c (col false e5) h = refl
 high-fixed a b c (col true e6) h = refl
 high-fixed a b c (col false e6) h = refl
 
-axis-turned : (s : Bool) (c : Column) → axisOf (turned s c) ≡ axisOf c
-axis-turned true c = refl
-axis-turned false (col s a) = refl
-
 high-turned : (s : Bool) (d : Column) → not (lowAxis (axisOf d)) ≡ true → not (lowAxis (axisOf (turned s d))) ≡ true
 high-turned s d h = rw axis-turned h
-
-sign-back : (s : Bool) (g : Perm) → times (turnedAll s g) (evaluated (signWord s)) ≡ g
-sign-back true (perm a b c d e f) = refl
-sign-back false g = times-minus (turnedAll false g) ∙ turned-all-twice g
-
-sign-commutes : (s : Bool) (g : Perm) → times g (evaluated (signWord s)) ≡ times (evaluated (signWord s)) g
-sign-commutes true g = times-unit g ∙ sym (unit-times g)
-sign-commutes false g = minus-commutes g
 
 module _ (a b c d e f : Column) (low : isLowHalf (axisOf a) (axisOf b) (axisOf c) ≡ true) (high : isHighHalf (axisOf d) (axisOf e) (axisOf f) ≡ true) where
   together : (s : Bool) → times (lowRotation (turned s a) (turned s b) (turned s c)) (highRotation (turned s d) (turned s e) (turned s f)) ≡ turnedAll s (perm a b c d e f)
@@ -89,13 +77,12 @@ module _ (a b c d e f : Column) (low : isLowHalf (axisOf a) (axisOf b) (axisOf c
       λ i. perm (turned s a) (turned s b) (turned s c) (p i) (q i) (r i)
 
   halves : isEven3 a b c ≡ isEven3 d e f
-      → times (times (evaluated (rotationOf (isEven3 a b c) (toByte a) (toByte b))) (evaluated (map onSecond (rotationOf (isEven3 a b c) (toByte d) (toByte e))))) (evaluated (signWord (isEven3 a b c)))
-      ≡ perm a b c d e f
+      → times (evaluated (rotationOf (isEven3 a b c) (toByte a) (toByte b))) (evaluated (map onSecond (rotationOf (isEven3 a b c) (toByte d) (toByte e))))
+      ≡ turnedAll (isEven3 a b c) (perm a b c d e f)
   halves p =
-      ap₂ (λ x y. times (times x y) (evaluated (signWord (isEven3 a b c)))) (low-rotation a b c low)
+      ap₂ times (low-rotation a b c low)
       (subst (λ s. evaluated (map onSecond (rotationOf s (toByte d) (toByte e))) ≡ highRotation (turned s d) (turned s e) (turned s f)) (sym p) (high-rotation d e f high))
-      ∙ ap (λ x. times x (evaluated (signWord (isEven3 a b c)))) (together (isEven3 a b c))
-      ∙ sign-back (isEven3 a b c) (perm a b c d e f)
+      ∙ together (isEven3 a b c)
 
 -- ---- the halves have one determinant
 
@@ -118,12 +105,9 @@ minus-signs-local g =
     let q = minus-signs (times g (inverse (secondAxes (axes g)))) (firstAxes (axes g)) (first-lt (axes g)) in
     omega arith
 
--- both rotations and the sign, from the columns that are left
-abbrev outer : List ℕ → Perm
-outer l = times (evaluated (rotationsOf (isEvenHalf l) l)) (evaluated (signWord (isEvenHalf l)))
-
-outer-local : (g r : Perm) → Proper g → local g ≡ r → outer (bytes r) ≡ r
-outer-local g (perm a b c d e f) w l =
+-- both rotations, from the columns that are left
+rotations-local : (g r : Perm) → Proper g → local g ≡ r → evaluated (rotationsOf (isEvenHalf (bytes r)) (bytes r)) ≡ turnedAll (isEvenHalf (bytes r)) r
+rotations-local g (perm a b c d e f) w l =
     let π = axes g in
     let s : Split π (axisOf a) (axisOf b) (axisOf c) (axisOf d) (axisOf e) (axisOf f) =
     subst (λ ρ. Split π (ρ e1) (ρ e2) (ρ e3) (ρ e4) (ρ e5) (ρ e6)) (sym (local-axes g) ∙ ap axes l) (split π (w .permutes)) in
@@ -134,7 +118,7 @@ outer-local g (perm a b c d e f) w l =
     let p = s .parity in
     let v = w .even in
     let o : (inversions3 (axisOf a) (axisOf b) (axisOf c) + minus3 a b c) % 2 ≡ (inversions3 (axisOf d) (axisOf e) (axisOf f) + minus3 d e f) % 2 = omega arith in
-    ap (λ x. times x (evaluated (signWord (isEven3 a b c)))) (evaluated-append (rotationOf (isEven3 a b c) (toByte a) (toByte b)) (map onSecond (rotationOf (isEven3 a b c) (toByte d) (toByte e))))
+    evaluated-append (rotationOf (isEven3 a b c) (toByte a) (toByte b)) (map onSecond (rotationOf (isEven3 a b c) (toByte d) (toByte e)))
     ∙ halves a b c d e f (s .low) (s .high) (even3 a b c ∙ ap (λ x. eqb x 0) o ∙ sym (even3 d e f))
 
 -- both parts come off again
@@ -150,27 +134,20 @@ parts-back g =
     ∙ ap (times g) (inverse-part _ (second-lt (axes g)))
     ∙ times-unit g
 
--- the sign comes to the left of the parts
-evaluated-with : (u p q z : List Gate) → ((g : Perm) → times g (evaluated z) ≡ times (evaluated z) g)
-    → evaluated ((u ++ (p ++ q)) ++ z) ≡ times (times (evaluated u) (evaluated z)) (times (evaluated p) (evaluated q))
-evaluated-with u p q z c =
-    simp evaluated-append
-    (times-assoc (evaluated u) (times (evaluated p) (evaluated q)) (evaluated z)
-    ∙ ap (times (evaluated u)) (c (times (evaluated p) (evaluated q)))
-    ∙ sym (times-assoc (evaluated u) (evaluated z) (times (evaluated p) (evaluated q))))
-
 -- the word, from the columns that are left and its two parts
 abbrev wordWith : List ℕ → List Gate → List Gate → List Gate
-wordWith l p q = (rotationsOf (isEvenHalf l) l ++ (p ++ q)) ++ signWord (isEvenHalf l)
+wordWith l p q = rotationsOf (isEvenHalf l) l ++ (p ++ q)
 
-pub decomposes : (g : Perm) → Proper g → evaluated (cliffordWord (bytes g)) ≡ g
-unfolding cliffordWord unsignedWord
+pub decomposes : (g : Perm) → Proper g → evaluated (cliffordWord (bytes g)) ≡ turnedAll (halvesEven (bytes g)) g
+unfolding cliffordWord
 decomposes g w =
     let p : List Gate = getD partWords (firstAxes (axes g)) [] in
     let q : List Gate = getD partWords (secondAxes (axes g)) [] in
     let l : List ℕ = bytes (local g) in
     ap₂ (λ j k. evaluated (wordWith (localColumns (bytes g)) (getD partWords j []) (getD partWords k []))) (first-part g) (second-part g)
     ∙ ap (λ l. evaluated (wordWith l p q)) (local-bytes g)
-    ∙ evaluated-with (rotationsOf (isEvenHalf l) l) p q (signWord (isEvenHalf l)) (sign-commutes (isEvenHalf l))
-    ∙ ap (λ x. times x (times (evaluated p) (evaluated q))) (outer-local g (local g) w refl)
-    ∙ parts-back g
+    ∙ evaluated-append (rotationsOf (isEvenHalf l) l) (p ++ q)
+    ∙ ap₂ times (rotations-local g (local g) w refl) (evaluated-append p q)
+    ∙ times-turned (isEvenHalf l) (local g) (times (evaluated p) (evaluated q))
+    ∙ ap (turnedAll (isEvenHalf l)) (parts-back g)
+    ∙ ap (λ l. turnedAll (isEvenHalf l) g) (sym (local-bytes g))

@@ -16,7 +16,7 @@ use Rattle.letter.specs.Laws.Signed.{Axis, e1, e2, e3, e4, e5, e6, Column, col,
 use Rattle.matrix.specs.List.{sameList}
 use Rattle.matrix.specs.Laws.Test.{and-left, and-right, same-list}
 use Rattle.letter.specs.Laws.Every.{implied, everyBool, everyAxis, everyColumn, every-column, everySigns, every-signs, bySix, by-six, arrangements, every-arrangement}
-use Rattle.letter.specs.Laws.Bytes.{axisOf, signOf, row-byte, from-bytes, bytes-valid}
+use Rattle.letter.specs.Laws.Bytes.{axisOf, signOf, axis-turned, row-byte, from-bytes, bytes-valid}
 
 same-perm : (g h : Perm) → sameList (bytes g) (bytes h) ≡ true → g ≡ h
 same-perm g h t = sym (from-bytes g) ∙ ap fromBytes (same-list (bytes g) (bytes h) t) ∙ from-bytes h
@@ -58,12 +58,8 @@ minuses-bytes (perm a b c d e f) =
 pub axes-times : (g h : Perm) → axes (times g h) ≡ (λ a. axes g (axes h a))
 axes-times g h = fun-ext λ a. ap axisOf (image-times g h a) ∙ at (image h a)
   where
-    same : (s : Bool) (c : Column) → axisOf (turned s c) ≡ axisOf c
-    same true c = refl
-    same false (col s a) = refl
-
     at : (c : Column) → axisOf (apply g c) ≡ axes g (axisOf c)
-    at (col s a) = same s (image g a)
+    at (col s a) = axis-turned s (image g a)
 
 signs-times : (g h : Perm) → signs (times g h) ≡ (λ a. signTimes (signs h a) (signs g (axes h a)))
 signs-times g h = fun-ext λ a. ap signOf (image-times g h a) ∙ at (image h a)

@@ -1,21 +1,23 @@
 -- The word of a Clifford: what it multiplies to, how long it is, and which letters it has.
 use mathlib.Core.Path.{_≡_, refl, sym, ap, ap₂, subst, _∙_}
-use mathlib.Core.Bool.{Bool, true, false, not, cond, _&&_}
+use mathlib.Core.Bool.{Bool, true, false, cond, _&&_}
 use mathlib.Core.List.{List, [], _∷_, _++_, map}
 use Prim.Native.Nat.{ℕ, zero, suc, _+_, _*_, _%_, _≤_}
 use native.Mathlib.Omega.{arith}
 use lib.Dec.{eqb, leb}
 use lib.ListN.{getD, length, length-append}
 use borrow.Author.Tests.{eqb-true, leb-true}
-use Rattle.matrix.specs.Matrix.{Same}
-use Rattle.clifford.specs.Columns.{columnsMatrix, areColumnBytes, different, inversions, isEven, arePermutation}
+use Rattle.matrix.specs.Matrix.{Same, scaled}
+use Rattle.clifford.specs.Columns.{columnsMatrix, areColumnBytes, signOf, signed, different, inversions, isEven, arePermutation}
+use Rattle.clifford.specs.Laws.Columns.{permutation-sound}
+use Rattle.clifford.specs.Laws.Signed.{signed-matrix}
 use Rattle.letter.specs.declared.Gate.{Gate}
 use Rattle.letter.specs.Gate.{wordMatrix, isCz, isCs, number}
-use Rattle.word.specs.Word.{bit, isLow, partWords, rotationWords, localColumns, onSecond, onQubit, rotationsOf, partsOf, halvesEven, unsignedWord, signWord, cliffordWord, crossings}
-use Rattle.letter.specs.Laws.Signed.{Perm, bytes, fromBytes, evaluated}
+use Rattle.word.specs.Word.{bit, isLow, partWords, rotationWords, localColumns, onSecond, onQubit, rotationsOf, partsOf, halvesEven, cliffordWord, wordSign, crossings}
+use Rattle.letter.specs.Laws.Signed.{Perm, bytes, fromBytes, evaluated, turnedAll}
 use Rattle.matrix.specs.Laws.Test.{and-left, and-right}
 use Rattle.letter.specs.Laws.Every.{everyBool, every-bool}
-use Rattle.letter.specs.Laws.Bytes.{bytes-from}
+use Rattle.letter.specs.Laws.Bytes.{bytes-from, turned-bytes}
 use Rattle.word.specs.Laws.Finite.{rows-bytes, minuses-bytes}
 use Rattle.word.specs.Laws.Decomposition.{Proper, decomposes}
 use Rattle.letter.specs.Laws.Matrix.{evaluated-matrix}
@@ -81,16 +83,20 @@ pub part-length : (k : ℕ) → length (getD partWords k []) ≤ 7
 unfolding partWords every-word
 part-length k = leb-true _ _ (word-at (λ w. leb (length w) 7) partWords refl k)
 
+-- a Z for each of three columns that is not low
+abbrev crossed3 : Bool → Bool → Bool → ℕ
+crossed3 a b c = cond a 0 1 + cond b 0 1 + cond c 0 1
+
 abbrev bits3 : Bool → Bool → Bool → ℕ
 bits3 a b c = 4 * bit a + 2 * bit b + bit c
 
-first-has : (a b c : Bool) → Has 7 (bit (not a) + bit (not b) + bit (not c)) (getD partWords (bits3 a b c) [])
+first-has : (a b c : Bool) → Has 7 (crossed3 a b c) (getD partWords (bits3 a b c) [])
 unfolding partWords everyBool has
 first-has a b c =
-    has-sound 7 (bit (not a) + bit (not b) + bit (not c)) _
-    (every-bool (λ c. has 7 (bit (not a) + bit (not b) + bit (not c)) (getD partWords (bits3 a b c) []))
-    (every-bool (λ b. everyBool (λ c. has 7 (bit (not a) + bit (not b) + bit (not c)) (getD partWords (bits3 a b c) [])))
-    (every-bool (λ a. everyBool (λ b. everyBool (λ c. has 7 (bit (not a) + bit (not b) + bit (not c)) (getD partWords (bits3 a b c) [])))) refl a) b) c)
+    has-sound 7 (crossed3 a b c) _
+    (every-bool (λ c. has 7 (crossed3 a b c) (getD partWords (bits3 a b c) []))
+    (every-bool (λ b. everyBool (λ c. has 7 (crossed3 a b c) (getD partWords (bits3 a b c) [])))
+    (every-bool (λ a. everyBool (λ b. everyBool (λ c. has 7 (crossed3 a b c) (getD partWords (bits3 a b c) [])))) refl a) b) c)
 
 second-has : (a b c : Bool) → Has 2 0 (getD partWords (8 + bits3 a b c) [])
 unfolding partWords everyBool has
@@ -99,10 +105,6 @@ second-has a b c =
     (every-bool (λ c. has 2 0 (getD partWords (8 + bits3 a b c) []))
     (every-bool (λ b. everyBool (λ c. has 2 0 (getD partWords (8 + bits3 a b c) [])))
     (every-bool (λ a. everyBool (λ b. everyBool (λ c. has 2 0 (getD partWords (8 + bits3 a b c) [])))) refl a) b) c)
-
-sign-has : (s : Bool) → Has 2 (cond s 0 2) (signWord s)
-sign-has true = record { short = omega arith; zs = refl; no-cs = refl }
-sign-has false = record { short = omega arith; zs = refl; no-cs = refl }
 
 rotations-have : (even : Bool) (bs : List ℕ) → Has 12 0 (rotationsOf even bs)
 rotations-have even bs = both-append (low-rotation-has _) (high-rotation-has _)
@@ -118,19 +120,19 @@ parts-have bs =
 pub parts-length : (bs : List ℕ) → length (partsOf bs) ≤ 9
 parts-length bs = parts-have bs .short
 
-word-has : (bs : List ℕ) → Has 23 (0 + (crossings bs + 0) + cond (halvesEven bs) 0 2) (cliffordWord bs)
-unfolding unsignedWord cliffordWord
-word-has bs = both-append (both-append (rotations-have (halvesEven bs) (localColumns bs)) (parts-have bs)) (sign-has (halvesEven bs))
+word-has : (bs : List ℕ) → Has 21 (0 + (crossings bs + 0)) (cliffordWord bs)
+unfolding cliffordWord
+word-has bs = both-append (rotations-have (halvesEven bs) (localColumns bs)) (parts-have bs)
 
-pub word-length : (bs : List ℕ) → length (cliffordWord bs) ≤ 23
+pub word-length : (bs : List ℕ) → length (cliffordWord bs) ≤ 21
 word-length bs = word-has bs .short
 
 -- no letter is C
 pub word-cs : (bs : List ℕ) → number isCs (cliffordWord bs) ≡ 0
 word-cs bs = word-has bs .no-cs
 
--- a Z for each column that crosses, and two where the sign is −1
-pub word-z : (bs : List ℕ) → number isCz (cliffordWord bs) ≡ crossings bs + cond (halvesEven bs) 0 2
+-- a Z for each column that crosses
+pub word-z : (bs : List ℕ) → number isCz (cliffordWord bs) ≡ crossings bs
 word-z bs = word-has bs .zs ∙ omega arith
 
 -- ---- what it multiplies to
@@ -142,12 +144,14 @@ proper g p e = record {
   even = sym (ap₂ (λ l m. (inversions l + m) % 2) (rows-bytes g) (minuses-bytes g)) ∙ eqb-true _ _ e;
 }
 
-pub word-matrix : (bs : List ℕ) → arePermutation bs ≡ true → isEven bs ≡ true → Same 6 (wordMatrix (cliffordWord bs)) (columnsMatrix bs)
+pub word-matrix : (bs : List ℕ) → arePermutation bs ≡ true → isEven bs ≡ true → Same 6 (wordMatrix (cliffordWord bs)) (scaled (signOf (wordSign bs)) (columnsMatrix bs))
 word-matrix bs p e i j hi hj =
     let g : Perm = fromBytes bs in
     let b : bytes g ≡ bs = bytes-from bs p in
-    let w : evaluated (cliffordWord (bytes g)) ≡ g = decomposes g (proper g (rw b p) (rw b e)) in
+    let w : evaluated (cliffordWord (bytes g)) ≡ turnedAll (halvesEven (bytes g)) g = decomposes g (proper g (rw b p) (rw b e)) in
     evaluated-matrix (cliffordWord bs) (word-cs bs) i j hi hj
     ∙ ap (λ x. columnsMatrix (bytes (evaluated (cliffordWord x))) i j) (sym b)
     ∙ ap (λ h. columnsMatrix (bytes h) i j) w
-    ∙ ap (λ x. columnsMatrix x i j) b
+    ∙ ap (λ x. columnsMatrix x i j) (turned-bytes (halvesEven (bytes g)) g)
+    ∙ ap (λ x. columnsMatrix (signed (wordSign x) x) i j) b
+    ∙ signed-matrix (wordSign bs) bs (permutation-sound bs p) i j hi hj

@@ -12,10 +12,10 @@ use Rattle.word_code.proofs.write_code.Statement.{statement}
 use Rattle.word_code.proofs.write_code.Tie as tie
 
 abbrev Inv-loop : tie.InvT-loop
-Inv-loop code out₀ at rest₀ i₀ out rest i = (i ≤ 18) × (length out ≡ length out₀) × ((w : List Gate) → code ≡ encoded w → Begun w at out₀ out rest i)
+Inv-loop code out₀ at rest₀ i₀ out rest i = (i ≤ 16) × (length out ≡ length out₀) × ((w : List Gate) → code ≡ encoded w → Begun w at out₀ out rest i)
 
 abbrev μ-loop : tie.MeasureT-loop
-μ-loop code out₀ at rest₀ i₀ out rest i = 18 - i
+μ-loop code out₀ at rest₀ i₀ out rest i = 16 - i
 
 loop-holds : tie.Need-loop-holds Inv-loop μ-loop
 loop-holds c = (omega arith, refl, λ w e. begun w _ _ _ e)

@@ -1,5 +1,6 @@
--- Each call writes its part of the word right after what stands there, and 40 letters of room are enough for all of them.
-use mathlib.Core.Path.{ap, _∙_}
+-- The parts stand right after the rotations, which have at most 12 letters; the sign says whether the halves are even.
+use mathlib.Core.Bool.{cond}
+use mathlib.Core.Path.{_≡_, sym, ap, _∙_}
 use mathlib.Core.List.{List, _++_}
 use Prim.Native.Nat.{_+_, _≤_}
 use native.Mathlib.Omega.{arith}
@@ -7,7 +8,7 @@ use borrow.Author.Needs.{needs}
 use denote.Ref.{now}
 use lib.ListN.{length, length-append}
 use Rattle.letter.specs.declared.Gate.{Gate}
-use Rattle.word.specs.Word.{isEvenHalf, rotationsOf, partsOf, signWord, unsignedWord, cliffordWord}
+use Rattle.word.specs.Word.{isEvenHalf, halvesEven, rotationsOf, partsOf, cliffordWord}
 use Rattle.letter.specs.Written.{Written}
 use Rattle.word.specs.Laws.Word.{rotations-length, parts-length}
 use Rattle.letter.specs.Laws.Written.{written-as, written-length, written-append}
@@ -34,7 +35,7 @@ write-rotations-requires c κs =
     let s = c .before .before .before .before in
     omega (arith, s .pre)
 
--- what is written where the rotations are, and where the parts are too
+-- the rotations are written
 abbrev rotations : tie.After-write-rotations → List Gate
 rotations c = rotationsOf (c .before .before .is-even .result) (c .before .before .before .local-columns .result)
 
@@ -42,24 +43,6 @@ rotations-room : (c : tie.After-write-rotations) → let s = c .before .before .
 rotations-room c =
     let n = rotations-length (c .before .before .is-even .result) (c .before .before .before .local-columns .result) in
     omega (arith, c .before .before .before .before .before .pre)
-
-abbrev unsigned : tie.After-write-parts → List Gate
-unsigned c = let w = c .before .before .before .before in rotations w ++ partsOf (w .before .before .before .before .before .args .columns)
-
-unsigned-length : (c : tie.After-write-parts) → length (unsigned c) ≤ 21
-unsigned-length c =
-    let w = c .before .before .before .before in
-    let m = rotations-length (w .before .before .is-even .result) (w .before .before .before .local-columns .result) in
-    let n = parts-length (w .before .before .before .before .before .args .columns) in
-    omega (arith, length-append (rotations w) (partsOf (w .before .before .before .before .before .args .columns)))
-
-unsigned-room : (c : tie.After-write-parts) → let s = c .before .before .before .before .before .before .before .before .before in s .args .at + length (unsigned c) ≤ length (now (s .args .out))
-unsigned-room c = let n = unsigned-length c in omega (arith, c .before .before .before .before .before .before .before .before .before .pre)
-
-unsigned-written : (c : tie.After-write-parts)
-    → let s = c .before .before .before .before .before .before .before .before .before in
-    Written (unsigned c) (s .args .at) (now (s .args .out)) (c .write-parts .last .1 .0) (c .write-parts .result)
-unsigned-written c = let w = c .before .before .before .before in written-append (w .write-rotations .ensures) (rotations-room w) (c .write-parts .ensures)
 
 write-parts-requires : tie.Need-write-parts-requires
 write-parts-requires c κs =
@@ -70,28 +53,34 @@ write-parts-requires c κs =
     let e = w .write-rotations .ensures .next in
     omega (arith, s .pre)
 
-write-sign-requires : tie.Need-write-sign-requires
-write-sign-requires c κs =
-    let p = c .before .before .before in
-    let s = p .before .before .before .before .before .before .before .before .before in
-    let n = unsigned-length p in
-    let l = written-length (unsigned-written p) (unsigned-room p) in
-    let e = unsigned-written p .next in
-    omega (arith, s .pre)
+-- the word is written
+module _ (c : tie.After-write-parts) where
+  whole : let s = c .before .before .before .before .before .before .before .before .before in
+      Written (cliffordWord (s .args .columns)) (s .args .at) (now (s .args .out)) (c .write-parts .last .1 .0) (c .write-parts .result)
+  unfolding cliffordWord
+  whole =
+      let w = c .before .before .before .before in
+      let l = w .before .before .before in
+      let bs = l .before .before .args .columns in
+      written-as
+      (ap (λ even. rotationsOf even (l .local-columns .result) ++ partsOf bs) (w .before .before .is-even .ensures)
+      ∙ ap (λ x. rotationsOf (isEvenHalf x) x ++ partsOf bs) (l .local-columns .ensures))
+      (written-append (w .write-rotations .ensures) (rotations-room w) (c .write-parts .ensures))
+
+  evenness : c .before .before .before .before .before .before .is-even .result ≡ halvesEven (c .before .before .before .before .before .before .before .before .before .args .columns)
+  evenness = let w = c .before .before .before .before in w .before .before .is-even .ensures ∙ ap isEvenHalf (w .before .before .before .local-columns .ensures)
 
 same-length : tie.Need-same-length
 same-length c = search needs
 
 returns : tie.Need-returns
-unfolding unsignedWord cliffordWord
-returns c =
-    let p = c .before .before .before .before .before .before in
-    let l = p .before .before .before .before .before .before .before in
-    let bs = l .before .before .args .columns in
-    written-as
-    (ap (λ even. (rotationsOf even (l .local-columns .result) ++ partsOf bs) ++ signWord even) (p .before .before .before .before .before .before .is-even .ensures)
-    ∙ ap (λ x. (rotationsOf (isEvenHalf x) x ++ partsOf bs) ++ signWord (isEvenHalf x)) (l .local-columns .ensures))
-    (written-append (unsigned-written p) (unsigned-room p) (c .before .before .write-sign .ensures))
+returns c = let p = c .before .before .before in (whole p, ap (λ t. cond t 0 1) (sym (c .if1 .taken) ∙ evenness p))
+
+same-length-2 : tie.Need-same-length-2
+same-length-2 c = search needs
+
+returns-2 : tie.Need-returns-2
+returns-2 c = let p = c .before .before .before in (whole p, ap (λ t. cond t 0 1) (sym (c .if1 .left) ∙ evenness p))
 
 pub write-clifford-spec : {M : Type 1} → statement M
 write-clifford-spec =
@@ -104,6 +93,7 @@ write-clifford-spec =
     is-even-requires
     write-rotations-requires
     write-parts-requires
-    write-sign-requires
     same-length
-    returns)
+    returns
+    same-length-2
+    returns-2)

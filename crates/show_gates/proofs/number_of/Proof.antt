@@ -1,17 +1,17 @@
--- The invariant: no more letters C than letters passed.
+-- The invariant: no more letters counted than passed.
 use mathlib.Core.Logic.{⊎-elim}
 use Prim.Native.Nat.{_-_, _≤_}
 use native.Mathlib.Omega.{arith}
 use lib.ListN.{length}
 use borrow.Author.Needs.{needs}
-use Rattle.show_gates.proofs.cs_gates.Statement.{statement}
-use Rattle.show_gates.proofs.cs_gates.Tie as tie
+use Rattle.show_gates.proofs.number_of.Statement.{statement}
+use Rattle.show_gates.proofs.number_of.Tie as tie
 
 abbrev Inv-loop : tie.InvT-loop
-Inv-loop letters count₀ n₀ count n = (n ≤ length letters) × (count ≤ n)
+Inv-loop letters letter count₀ n₀ count n = (n ≤ length letters) × (count ≤ n)
 
 abbrev μ-loop : tie.MeasureT-loop
-μ-loop letters count₀ n₀ count n = length letters - n
+μ-loop letters letter count₀ n₀ count n = length letters - n
 
 loop-holds : tie.Need-loop-holds Inv-loop μ-loop
 loop-holds c = search needs
@@ -34,8 +34,8 @@ loop-again c = ⊎-elim (λ w. omega arith) (λ w. omega arith) (c .if1 .came)
 returns : tie.Need-returns Inv-loop μ-loop
 returns c = search needs
 
-pub cs-gates-spec : {M : Type 1} → statement M
-cs-gates-spec =
+pub number-of-spec : {M : Type 1} → statement M
+number-of-spec =
     tie.close
     (tie.spec
     Inv-loop
