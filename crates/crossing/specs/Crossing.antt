@@ -34,7 +34,7 @@ joined (s ∷ t ∷ ss) = s ++ Cs ∷ joined (t ∷ ss)
 
 -- ---- letters Z
 
--- 1 where the matrix sends this index to 4 to 6, 0 where to 1 to 3: to the row in which its column has the entry. Both are counted from 0
+-- an index is sent to the row in which its column has the entry: 1 where that is one of 4 to 6, 0 where one of 1 to 3. Here both are counted from 0
 abbrev pub crosses : Matrix → ℕ → ℕ
 crosses M c = cond (ltb (columnRow M c) 3) 0 1
 

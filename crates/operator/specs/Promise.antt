@@ -6,13 +6,12 @@ use mathlib.Core.Path.{_≡_}
 use Prim.Native.Nat.{ℕ, _+_, _*_, _≤_, _<_}
 use lib.Dec.{eqb, ltb}
 use lib.ListN.{length, getD}
-use Rattle.matrix.specs.Operator.{SameOperator, SameUpToSign, LeastExponent}
+use Rattle.matrix.specs.Operator.{SameOperator, LeastExponent}
 use Rattle.file.specs.File.{largestExponent, fileLength, fileExponent, fileMatrix, written, fileOperator}
-use Rattle.clifford.specs.Columns.{timesSign}
 use Rattle.letter.specs.declared.Gate.{Gate}
 use Rattle.letter.specs.Gate.{letter}
-use Rattle.gate.specs.Product.{productOf, MultipliesTo, csGates}
-use Rattle.crossing.specs.Crossing.{EachStretch}
+use Rattle.gate.specs.Product.{MultipliesTo}
+use Rattle.gate_list.specs.Promise.{ListFor}
 use Rattle.operator.specs.declared.Cuts.{Cuts}
 use Rattle.operator.specs.declared.Cuts.the-variants.{Taken, Refused}
 use Rattle.operator.specs.declared.Listed as listed
@@ -73,29 +72,13 @@ pub record SheetPromise (b old new : List ℕ) (a : Cuts) : Type 0 where
 
 -- ---- gate lists
 
--- what holds of a list w for the operator of the file b, and of its sign s; its Clifford letters are free
-pub record ListFor (b : List ℕ) (w : List Gate) (s : ℕ) : Type 0 where
-  -- demand 2, as P9 has it: "the list handed out multiplies to the one it says"
-  pub multiplies : MultipliesTo w (timesSign s (fileOperator b))
-  -- "0 for M and 1 for −M, a number that follows from the letters"
-  pub small : s ≤ 1
-  pub follows : (t : ℕ) → t ≤ 1 → MultipliesTo w (timesSign t (fileOperator b)) → t ≡ s
-  -- demand 3: the letters C, the count and the least exponent are one number, and no list for M or −M has fewer letters C: "the CS count remains
-  -- least for both"
-  pub exact : csGates w ≡ fileCount b
-  pub least : LeastExponent (fileOperator b) (fileCount b)
-  pub fewest : (v : List Gate) → SameUpToSign (productOf v) (fileOperator b) → csGates w ≤ csGates v
-  pub short : length w ≤ 256 * (fileCount b + 1)
-  -- "In each stretch without C", the fewest letters Z
-  pub stretches : EachStretch w
-
--- the list was written
+-- a list w for the file's operator was written; s is its sign
 pub record Handed (b old new : List ℕ) (a : listed.Listed) (w : List Gate) (s : ℕ) : Type 0 where
   -- the letters at the front of the buffer, and the bytes past them as they were
   pub buffer : new ≡ written old (map letter w)
   -- "the count comes with the number of letters written"; "beside the count, L" (document 02, P3); "its result says which" (P9)
   pub answer : a ≡ listed.the-variants.Letters (fileCount b) (length w) (fileLoose b) s
-  pub list : ListFor b w s
+  pub list : ListFor (fileOperator b) (fileCount b) w s
 
 pub record GatesPromise (b old new : List ℕ) (a : listed.Listed) : Type 0 where
   pub refused : fileRefusal b ≢ 0 → (a ≡ listed.the-variants.Refused (fileRefusal b)) × (new ≡ old)

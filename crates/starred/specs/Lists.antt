@@ -3,7 +3,7 @@ use mathlib.Core.Bool.{Bool, true, false, _&&_}
 use mathlib.Core.List.{List, [], _∷_, map}
 use Prim.Native.Nat.{ℕ}
 use lib.Dec.{eqb}
-use lib.IntN.{pos, negsuc, _*ℤ_}
+use lib.IntN.{negsuc, _*ℤ_}
 use Rattle.matrix.specs.List.{sameList}
 use Rattle.matrix.specs.Matrix.{Matrix, δ, listed}
 use Rattle.letter.specs.declared.Gate.{Gate}
@@ -39,8 +39,8 @@ abbrev pub allPass : List Trial → Bool
 allPass [] = true
 allPass (t ∷ ts) = passes t && allPass ts
 
--- the identity; its negative; `Z`, whose list is itself; twice the negative, k 2; the empty list is one empty stretch; `CHC` has two that are empty
--- and one of H; `ZCCS`; words that take none, one, two and all three of the indices across, and `ZZ`, which takes none
+-- the identity; its negative, also twice it with k 2; `Z`, whose list is itself; the empty list is one empty stretch; `CHC` has two that are empty and
+-- one of H; `ZCCS`; words that take none, one, two and all three of the indices across, and `ZZ`, which takes none
 unfoldable pub trials : List Trial
 trials =
     lists 0 δ [] 0 ∷

@@ -19,7 +19,7 @@ use Rattle.clifford.specs.Columns.{columnEntry, columnsMatrix, columnRow, signO
 use Rattle.clifford.specs.Laws.Sign.{sign-other, sign-of-both}
 use Rattle.letter.specs.declared.Gate.{Gate}
 use Rattle.letter.specs.declared.Gate.the-variants.{H1, H2, S1, S2, Cz, Cs}
-use Rattle.letter.specs.Gate.{columns, wordMatrix, isCz, isCs, number}
+use Rattle.letter.specs.Gate.{columns, wordMatrix, isCz, number}
 use Rattle.letter.specs.Laws.Signed.{Column, Perm, perm, turned, times, unit, rowNumber, toByte, bytes, fromBytes, evaluated, times-assoc, times-unit, unit-times}
 use Rattle.letter.specs.Laws.Every.{everyBool, everyAxis, everyColumn, every-column}
 use Rattle.letter.specs.Laws.Bytes.{axisOf, axis-turned}

@@ -1,7 +1,7 @@
 -- The invariant: the stretches before number n are written, and their signs are added. A stretch has at most 16 letters, and 37 are room enough for
 -- the last word.
 use mathlib.Core.Path.{_≡_, sym, ap, _∙_}
-use Prim.Native.Nat.{_+_, _*_, _-_, _%_, _≤_}
+use Prim.Native.Nat.{_+_, _*_, _-_, _≤_}
 use native.Mathlib.Omega.{arith}
 use lib.ListN.{length, getD, take}
 use lib.Seq.{getD-take}

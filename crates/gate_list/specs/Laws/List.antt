@@ -1,5 +1,5 @@
 -- The gate list of a normal form multiplies to it times its sign, has a letter C for each of its generators, and in each stretch the fewest letters Z.
-use mathlib.Core.Path.{_≡_, refl, sym, subst, _∙_}
+use mathlib.Core.Path.{_≡_, refl, sym, _∙_}
 use mathlib.Core.Bool.{Bool, true, _&&_}
 use mathlib.Core.List.{List, [], _∷_, _++_}
 use Prim.Native.Nat.{ℕ, zero, suc, _+_, _*_, _%_, _<_, _≤_}
@@ -18,7 +18,7 @@ use Rattle.matrix.specs.Laws.Operator.{same-operator-refl, same-operator-sym, s
 use Rattle.matrix.specs.Laws.Array.{everywhere-sound}
 use Rattle.clifford.specs.Columns.{columnsMatrix, columnBytes, timesSign, arePermutation, isEven}
 use Rattle.clifford.specs.Laws.Columns.{permutation-complete, matrix-permutation, matrix-columns}
-use Rattle.clifford.specs.Laws.Sign.{sign-same, sign-none, times-sign-r, times-signs, sign-least, sign-of-both}
+use Rattle.clifford.specs.Laws.Sign.{sign-same, sign-none, times-sign-r, times-signs, sign-least, sign-of-both, sign-follows}
 use Rattle.sign.specs.Laws.Sign.{proper-even}
 use Rattle.residue.specs.Generator.{table, place, generator}
 use Rattle.residue.specs.Laws.Table.{numbered}
@@ -36,6 +36,7 @@ use Rattle.gate.specs.Laws.Product.{product-append, fewest}
 use Rattle.crossing.specs.Crossing.{EachStretch}
 use Rattle.crossing.specs.Laws.Stretch.{each-one, each-more}
 use Rattle.gate_list.specs.List.{IsClifford, lefts, rights, leftOf, rightOf, stretchSign, stretches, signs, gateList, listSign}
+use Rattle.gate_list.specs.Promise.{ListFor}
 use Rattle.gate_list.specs.Laws.Word.{clifford, clifford-word, times-clifford, composed-clifford, clifford-fewest}
 
 -- ---- the table
@@ -155,14 +156,6 @@ listOf k m = gateList (taken k m) (columnBytes (entry (remaining k m)))
 abbrev pub signOfList : ℕ → List ℤ → ℕ
 signOfList k m = listSign (taken k m) (columnBytes (entry (remaining k m)))
 
-pub record Listed (k : ℕ) (m : List ℤ) (w : List Gate) (s : ℕ) : Type 0 where
-  pub multiplies : MultipliesTo w (timesSign s (operator k (entry m)))
-  pub exact : csGates w ≡ count k m
-  pub least : LeastExponent (operator k (entry m)) (csGates w)
-  pub fewest : (v : List Gate) → SameUpToSign (productOf v) (operator k (entry m)) → csGates w ≤ csGates v
-  pub short : length w ≤ 256 * (count k m + 1)
-  pub stretches : EachStretch w
-
 pub identity-clifford : IsClifford identityColumns
 unfolding arePermutation isEven
 identity-clifford = record { permutation = refl; even = refl }
@@ -177,7 +170,8 @@ identity-times A =
 fewest-both : {A : Operator} {l : ℕ} → LeastExponent A l → (v : List Gate) → SameUpToSign (productOf v) A → l ≤ csGates v
 fewest-both e v u = let (s, h) = sign-of-both u in fewest (sign-least s e) (record { same = h })
 
-pub list-of : (k : ℕ) (m : List ℤ) → Orthogonal (operator k (entry m)) → Proper (operator k (entry m)) → Listed k m (listOf k m) (signOfList k m)
+pub list-of : (k : ℕ) (m : List ℤ) → Orthogonal (operator k (entry m)) → Proper (operator k (entry m))
+    → ListFor (operator k (entry m)) (count k m) (listOf k m) (signOfList k m)
 list-of k m o p =
     let c = cutting k m o in
     let cs = columnBytes (entry (remaining k m)) in
@@ -188,17 +182,18 @@ list-of k m o p =
       even = proper-even cs perm (same-proper (same-operator-sym (same-operator-of (clifford cs) (operator 0 (entry (remaining k m))) refl same)) (c .clifford p .proper));
     } in
     let e : csGates (listOf k m) ≡ count k m = stretches-cs identityColumns (taken k m) cs ∙ c .exact in
-    let l : LeastExponent (operator k (entry m)) (csGates (listOf k m)) = subst (λ n. LeastExponent (operator k (entry m)) n) (sym e) (c .least) in
+    let s : SameOperator (productOf (listOf k m)) (timesSign (signOfList k m) (operator k (entry m))) =
+    same-operator-trans (stretches-product identityColumns (taken k m) cs identity-clifford (c .numbers) clifford-cs)
+    (sign-same (signOfList k m)
+    (same-operator-trans (identity-times (normalForm (taken k m) (columnsMatrix cs)))
+    (same-operator-trans (normal-form-same (taken k m) (columnsMatrix cs) (entry (remaining k m)) same) (same-operator-sym (c .same))))) in
     record {
-      multiplies = record {
-        same = same-operator-trans (stretches-product identityColumns (taken k m) cs identity-clifford (c .numbers) clifford-cs)
-            (sign-same (signOfList k m)
-            (same-operator-trans (identity-times (normalForm (taken k m) (columnsMatrix cs)))
-            (same-operator-trans (normal-form-same (taken k m) (columnsMatrix cs) (entry (remaining k m)) same) (same-operator-sym (c .same)))));
-      };
+      multiplies = record { same = s };
+      small = omega arith;
+      follows = λ r l h. sign-follows r (signOfList k m) l (omega arith) o (h .same) s;
       exact = e;
-      least = l;
-      fewest = fewest-both l;
+      least = c .least;
+      fewest = λ v u. rw e (fewest-both (c .least) v u);
       short = let a = stretches-length identityColumns (taken k m) cs in let b = c .exact in omega arith;
       stretches = stretches-fewest identityColumns (taken k m) cs identity-clifford (c .numbers) clifford-cs;
     }

@@ -13,15 +13,14 @@ use Rattle.matrix.specs.Operator.{SameOperator}
 use Rattle.matrix.specs.Laws.Array.{least-form}
 use borrow.Author.Tests.{eq-eqb, ne-eqb, lt-ltb, le-ltb}
 use Rattle.file.specs.File.{written, largestExponent, fileExponent, fileMatrix, fileOperator}
-use Rattle.clifford.specs.Columns.{areColumnBytes, timesSign}
+use Rattle.clifford.specs.Columns.{areColumnBytes}
 use Rattle.clifford.specs.Laws.Columns.{matrix-permutation, permutation-complete, columns-valid}
-use Rattle.clifford.specs.Laws.Sign.{sign-follows}
 use Rattle.reduction.specs.Reduction.{remaining}
 use Rattle.reduction.specs.Laws.NormalForm.{Cutting, cutting}
 use Rattle.letter.specs.Gate.{letter}
 use Rattle.letter.specs.Written.{Written}
-use Rattle.gate.specs.Product.{MultipliesTo}
 use Rattle.gate_list.specs.List.{gateList, listSign}
+use Rattle.gate_list.specs.Promise.{ListFor}
 use Rattle.gate_list.specs.Laws.List.{listOf, signOfList, list-of}
 use Rattle.sheet_bytes.specs.Bytes.{shortest, sheetBytes, sheet, sheetOperator}
 use Rattle.sheet_bytes.specs.Laws.Sheet.{length-sheet, sheet-back}
@@ -158,8 +157,6 @@ module _ (b old : List ℕ) (r : Cut) (c : CutOf b r) where
       let w = listOf (fileExponent b) (fileMatrix b) in
       let v : Written w 0 old new n = subst (λ x. Written x 0 old new n) (ap₂ gateList (y .numbers) (y .columns)) k in
       let f : signOfList (fileExponent b) (fileMatrix b) ≡ s = sym (q ∙ ap₂ listSign (y .numbers) (y .columns)) in
-      let small : s ≤ 1 = omega arith in
-      let m : MultipliesTo w (timesSign s (fileOperator b)) = subst (λ x. MultipliesTo w (timesSign x (fileOperator b))) f (g .multiplies) in
       record {
         refused = λ n. absurd (n (y .accepted));
         no-room = λ z l. absurd (omega arith);
@@ -169,16 +166,7 @@ module _ (b old : List ℕ) (r : Cut) (c : CutOf b r) where
           record {
             buffer = v .buffer ∙ ap (λ x. map letter w ++ drop x old) (zero-add (length w) ∙ sym (length-map w letter));
             answer = let e = v .next ∙ zero-add (length w) in cc (t, e, y .loose);
-            list = record {
-              multiplies = m;
-              small = small;
-              follows = λ x l p. sign-follows x s l small (a .orthogonal) (p .same) (m .same);
-              exact = g .exact;
-              least = file-cutting b (y .accepted) .least;
-              fewest = g .fewest;
-              short = g .short;
-              stretches = g .stretches;
-            };
+            list = subst (ListFor (fileOperator b) (fileCount b) w) f g;
           },
         );
         exactly = none (y .accepted);

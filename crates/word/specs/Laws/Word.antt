@@ -117,9 +117,6 @@ parts-have bs =
     both-append (first-has (isLow (getD bs 0 0)) (isLow (getD bs 1 0)) (isLow (getD bs 2 0)))
     (second-has (isLow (getD bs 3 0)) (isLow (getD bs 4 0)) (isLow (getD bs 5 0)))
 
-pub parts-length : (bs : List ℕ) → length (partsOf bs) ≤ 9
-parts-length bs = parts-have bs .short
-
 word-has : (bs : List ℕ) → Has 21 (0 + (crossings bs + 0)) (cliffordWord bs)
 unfolding cliffordWord
 word-has bs = both-append (rotations-have (halvesEven bs) (localColumns bs)) (parts-have bs)

@@ -6,11 +6,11 @@ use Prim.Native.Nat.{_+_, _≤_}
 use native.Mathlib.Omega.{arith}
 use borrow.Author.Needs.{needs}
 use denote.Ref.{now}
-use lib.ListN.{length, length-append}
+use lib.ListN.{length}
 use Rattle.letter.specs.declared.Gate.{Gate}
 use Rattle.word.specs.Word.{isEvenHalf, halvesEven, rotationsOf, partsOf, cliffordWord}
 use Rattle.letter.specs.Written.{Written}
-use Rattle.word.specs.Laws.Word.{rotations-length, parts-length}
+use Rattle.word.specs.Laws.Word.{rotations-length}
 use Rattle.letter.specs.Laws.Written.{written-as, written-length, written-append}
 use Rattle.word_table.proofs.write_clifford.Statement.{statement}
 use Rattle.word_table.proofs.write_clifford.Tie as tie
