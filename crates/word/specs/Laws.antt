@@ -2,3 +2,4 @@
 pub mod Finite
 pub mod Decomposition
 pub mod Word
+pub mod Negative

@@ -96,10 +96,10 @@ regrouped K L R N G =
     (times-same (same-operator-refl K)
     (same-operator-sym (same-operator-trans (times-assoc L (timesOperator G R) N) (times-same (same-operator-refl L) (times-assoc G R N)))))
 
-numbers-head : (g : ℕ) (gs : List ℕ) → Numbers (g ∷ gs) → (1 ≤ g) × (g ≤ 15)
+pub numbers-head : (g : ℕ) (gs : List ℕ) → Numbers (g ∷ gs) → (1 ≤ g) × (g ≤ 15)
 numbers-head g gs n = n 0 (omega arith)
 
-numbers-tail : (g : ℕ) (gs : List ℕ) → Numbers (g ∷ gs) → Numbers gs
+pub numbers-tail : (g : ℕ) (gs : List ℕ) → Numbers (g ∷ gs) → Numbers gs
 numbers-tail g gs n i h = n (suc i) (omega arith)
 
 stretches-product : (bs gs cs : List ℕ) → IsClifford bs → Numbers gs → IsClifford cs
@@ -170,17 +170,25 @@ identity-times A =
 fewest-both : {A : Operator} {l : ℕ} → LeastExponent A l → (v : List Gate) → SameUpToSign (productOf v) A → l ≤ csGates v
 fewest-both e v u = let (s, h) = sign-of-both u in fewest (sign-least s e) (record { same = h })
 
+-- what remains is a Clifford
+pub left-clifford : (k : ℕ) (m : List ℤ) → Orthogonal (operator k (entry m)) → Proper (operator k (entry m)) → IsClifford (columnBytes (entry (remaining k m)))
+left-clifford k m o p =
+    let c = cutting k m o in
+    let R = entry (remaining k m) in
+    let perm = matrix-permutation R (c .orthogonal) in
+    record {
+      permutation = permutation-complete (columnBytes R) perm;
+      even = proper-even (columnBytes R) perm
+          (same-proper (same-operator-sym (same-operator-of (clifford (columnBytes R)) (operator 0 R) refl (matrix-columns R (c .orthogonal)))) (c .clifford p .proper));
+    }
+
 pub list-of : (k : ℕ) (m : List ℤ) → Orthogonal (operator k (entry m)) → Proper (operator k (entry m))
     → ListFor (operator k (entry m)) (count k m) (listOf k m) (signOfList k m)
 list-of k m o p =
     let c = cutting k m o in
     let cs = columnBytes (entry (remaining k m)) in
-    let perm = matrix-permutation (entry (remaining k m)) (c .orthogonal) in
+    let clifford-cs = left-clifford k m o p in
     let same : Same 6 (columnsMatrix cs) (entry (remaining k m)) = matrix-columns (entry (remaining k m)) (c .orthogonal) in
-    let clifford-cs : IsClifford cs = record {
-      permutation = permutation-complete cs perm;
-      even = proper-even cs perm (same-proper (same-operator-sym (same-operator-of (clifford cs) (operator 0 (entry (remaining k m))) refl same)) (c .clifford p .proper));
-    } in
     let e : csGates (listOf k m) ≡ count k m = stretches-cs identityColumns (taken k m) cs ∙ c .exact in
     let s : SameOperator (productOf (listOf k m)) (timesSign (signOfList k m) (operator k (entry m))) =
     same-operator-trans (stretches-product identityColumns (taken k m) cs identity-clifford (c .numbers) clifford-cs)

@@ -137,22 +137,25 @@ evaluated-append (x ∷ u) v =
 abbrev pub turnedAll : Bool → Perm → Perm
 turnedAll s (perm a b c d e f) = perm (turned s a) (turned s b) (turned s c) (turned s d) (turned s e) (turned s f)
 
--- it comes out of a product
+pub image-turned : (s : Bool) (g : Perm) (a : Axis) → image (turnedAll s g) a ≡ turned s (image g a)
+image-turned s (perm a b c d e f) e1 = refl
+image-turned s (perm a b c d e f) e2 = refl
+image-turned s (perm a b c d e f) e3 = refl
+image-turned s (perm a b c d e f) e4 = refl
+image-turned s (perm a b c d e f) e5 = refl
+image-turned s (perm a b c d e f) e6 = refl
+
+-- it comes out of a product, on either side
 pub times-turned : (s : Bool) (g h : Perm) → times (turnedAll s g) h ≡ turnedAll s (times g h)
-times-turned s g (perm a b c d e f) = perm-path (at g a) (at g b) (at g c) (at g d) (at g e) (at g f)
+times-turned s g (perm a b c d e f) = perm-path (at a) (at b) (at c) (at d) (at e) (at f)
   where
     both : (t : Bool) (s : Bool) (c : Column) → turned t (turned s c) ≡ turned s (turned t c)
     both true s c = refl
     both false true c = refl
     both false false c = refl
 
-    same : (g : Perm) (a : Axis) → image (turnedAll s g) a ≡ turned s (image g a)
-    same (perm a b c d e f) e1 = refl
-    same (perm a b c d e f) e2 = refl
-    same (perm a b c d e f) e3 = refl
-    same (perm a b c d e f) e4 = refl
-    same (perm a b c d e f) e5 = refl
-    same (perm a b c d e f) e6 = refl
+    at : (c : Column) → apply (turnedAll s g) c ≡ turned s (apply g c)
+    at (col t a) = ap (turned t) (image-turned s g a) ∙ both t s (image g a)
 
-    at : (g : Perm) (c : Column) → apply (turnedAll s g) c ≡ turned s (apply g c)
-    at g (col t a) = ap (turned t) (same g a) ∙ both t s (image g a)
+pub times-turned-r : (s : Bool) (g h : Perm) → times g (turnedAll s h) ≡ turnedAll s (times g h)
+times-turned-r s g (perm a b c d e f) = perm-path (apply-turned g s a) (apply-turned g s b) (apply-turned g s c) (apply-turned g s d) (apply-turned g s e) (apply-turned g s f)

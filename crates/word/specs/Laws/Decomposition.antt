@@ -26,10 +26,10 @@ first-lt π = let h = low-axes-lt (π e1) (π e2) (π e3) in omega arith
 second-lt : (π : Axis → Axis) → secondAxes π < 16
 second-lt π = let h = low-axes-lt (π e4) (π e5) (π e6) in omega arith
 
-first-part : (g : Perm) → firstPart (bytes g) ≡ firstAxes (axes g)
+pub first-part : (g : Perm) → firstPart (bytes g) ≡ firstAxes (axes g)
 first-part (perm a b c d e f) = rw (row-byte a, row-byte b, row-byte c)
 
-second-part : (g : Perm) → secondPart (bytes g) ≡ secondAxes (axes g)
+pub second-part : (g : Perm) → secondPart (bytes g) ≡ secondAxes (axes g)
 second-part (perm a b c d e f) = rw (row-byte d, row-byte e, row-byte f)
 
 abbrev pub local : Perm → Perm
@@ -86,10 +86,10 @@ module _ (a b c d e f : Column) (low : isLowHalf (axisOf a) (axisOf b) (axisOf c
 
 -- ---- the halves have one determinant
 
-abbrev minus3 : Column → Column → Column → ℕ
+abbrev pub minus3 : Column → Column → Column → ℕ
 minus3 a b c = bit (not (signOf a)) + (bit (not (signOf b)) + (bit (not (signOf c)) + 0))
 
-even3 : (a b c : Column) → isEven3 a b c ≡ eqb ((inversions3 (axisOf a) (axisOf b) (axisOf c) + minus3 a b c) % 2) 0
+pub even3 : (a b c : Column) → isEven3 a b c ≡ eqb ((inversions3 (axisOf a) (axisOf b) (axisOf c) + minus3 a b c) % 2) 0
 unfolding isEven
 even3 a b c = rw (row-byte a, row-byte b, row-byte c, minus-byte a, minus-byte b, minus-byte c)
 

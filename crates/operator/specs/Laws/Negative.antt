@@ -1,0 +1,47 @@
+-- Operators that agree up to sign have the same letters; an operator and its negative have the other sign.
+use mathlib.Core.Path.{_≡_, ap, ap₂, _∙_}
+use mathlib.Core.Logic.{inl, inr}
+use mathlib.Core.List.{List}
+use Prim.Native.Nat.{ℕ, _+_, _%_}
+use native.Mathlib.Omega.{arith}
+use lib.IntN.{ℤ, negsuc}
+use lib.ListN.{length}
+use Rattle.matrix.specs.Matrix.{entry, scaled}
+use Rattle.matrix.specs.Operator.{operator, SameOperator, SameUpToSign, Orthogonal, Proper}
+use Rattle.matrix.specs.Laws.Operator.{same-operator-trans}
+use Rattle.matrix.specs.Laws.Array.{length-listed, same-least-form}
+use Rattle.clifford.specs.Columns.{columnBytes, signed}
+use Rattle.reduction.specs.Reduction.{taken, generators, remainder}
+use Rattle.reduction.specs.Laws.NormalForm.{cutting}
+use Rattle.reduction.specs.Laws.Negative.{negativeOf, negative-same, negative-array-orthogonal, taken-negative}
+use Rattle.sheet_bytes.specs.Laws.Sheet.{columnsLeft, columns-negative}
+use Rattle.letter.specs.Composition.{identityColumns}
+use Rattle.gate_list.specs.List.{gateList, signs}
+use Rattle.gate_list.specs.Laws.List.{listOf, signOfList, identity-clifford, left-clifford}
+use Rattle.gate_list.specs.Laws.Negative.{stretches-negated, signs-negated}
+
+module _ (k : ℕ) (m : List ℤ) (o : Orthogonal (operator k (entry m))) (p : Proper (operator k (entry m))) where
+  list-negative : listOf k (negativeOf m) ≡ listOf k m
+  list-negative =
+      ap₂ gateList (taken-negative k m o) (columns-negative k m o)
+      ∙ stretches-negated identityColumns (taken k m) (columnsLeft k m) identity-clifford (cutting k m o .numbers) (left-clifford k m o p)
+
+  pub sign-negative : signOfList k (negativeOf m) + signOfList k m ≡ 1
+  sign-negative =
+      let e : signs identityColumns (taken k (negativeOf m)) (columnsLeft k (negativeOf m)) ≡ signs identityColumns (taken k m) (signed 1 (columnsLeft k m)) =
+      ap₂ (signs identityColumns) (taken-negative k m o) (columns-negative k m o) in
+      let h = signs-negated identityColumns (taken k m) (columnsLeft k m) identity-clifford (cutting k m o .numbers) (left-clifford k m o p) in
+      rw e (parities (signs identityColumns (taken k m) (signed 1 (columnsLeft k m))) (signs identityColumns (taken k m) (columnsLeft k m)) h)
+    where
+      parities : (x y : ℕ) → (x + y) % 2 ≡ 1 → x % 2 + y % 2 ≡ 1
+      parities x y h = omega arith
+
+module _ (k l : ℕ) (m n : List ℤ) (hm : length m ≡ 36) (hn : length n ≡ 36) (o : Orthogonal (operator k (entry m))) (p : Orthogonal (operator l (entry n))) (q : Proper (operator l (entry n))) where
+  same-list : (r : List ℤ) → length r ≡ 36 → Orthogonal (operator l (entry r)) → SameOperator (operator k (entry m)) (operator l (entry r)) → listOf k m ≡ listOf l r
+  same-list r hr s h = ap (λ f. gateList (generators (f .exponent) (f .matrix)) (columnBytes (entry (remainder (f .exponent) (f .matrix))))) (same-least-form k l m r hm hr o s h)
+
+  pub same-letters : SameUpToSign (operator k (entry m)) (operator l (entry n)) → listOf k m ≡ listOf l n
+  same-letters (inl h) = same-list n hn p h
+  same-letters (inr h) =
+      same-list (negativeOf n) (length-listed (scaled (negsuc 0) (entry n))) (negative-array-orthogonal l n p) (same-operator-trans h (negative-same l n))
+      ∙ list-negative l n p q
