@@ -280,6 +280,7 @@ fn right_of(g: usize) -> [u8; 6]
 }
 
 // Writes the stretch between generators g and h, and the C of h.
+// Wrong, and refused: the sign taken for a letter; the sign 0 for every stretch.
 fn write_stretch(codes: &[u64; 225], g: usize, h: usize, out: &mut [u8], at: usize) -> Word
     requires { ⌜ (1 ≤ g) × (g ≤ 15) × (1 ≤ h) × (h ≤ 15) × (at + 16 ≤ length (now out)) × (now codes ≡ stretchCodes) ⌝ }
     ensures { λ r. ⌜ Written (stretch (rightOf g) h) at (now (out .entry)) (now (out .exit)) (r .next) × (r .sign ≡ stretchSign (rightOf g) h) ⌝ }

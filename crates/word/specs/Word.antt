@@ -160,6 +160,7 @@ partsOf bs = getD partWords (firstPart bs) [] ++ getD partWords (secondPart bs) 
 abbrev pub halvesEven : List ℕ → Bool
 halvesEven bs = isEvenHalf (localColumns bs)
 
+-- the word of a Clifford, up to sign
 unfoldable pub cliffordWord : List ℕ → List Gate
 cliffordWord bs = rotationsOf (halvesEven bs) (localColumns bs) ++ partsOf bs
 

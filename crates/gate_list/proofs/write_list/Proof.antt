@@ -23,16 +23,17 @@ Inv-loop count columns out₀ numbers codes before₀ at₀ signs₀ n₀ out be
 abbrev μ-loop : tie.MeasureT-loop
 μ-loop count columns out₀ numbers codes before₀ at₀ signs₀ n₀ out before at signs n = count - n
 
--- of the loop's state: there is room, the buffer has its length, and the next letter's place
+-- of the loop's state: there is room, and the buffer has its length
 module _ (l : tie.At-loop Inv-loop μ-loop) where
   fits : 16 * l .loop .n + 50 ≤ length (now (l .before .before .before .args .out))
   fits = omega (arith, l .before .before .before .pre .3, l .loop .inv .0)
 
-  size : length (l .loop .out) ≡ length (now (l .before .before .before .args .out))
-  size = same-size _ _ _ _ _ _ _ _ (l .loop .inv .1) (let f = fits in omega arith)
-
-  next : l .loop .at ≤ 16 * l .loop .n
-  next = place _ _ _ _ _ _ _ _ (l .loop .inv .1) (let f = fits in omega arith)
+  room : (length (l .loop .out) ≡ length (now (l .before .before .before .args .out))) × (l .loop .at + 40 ≤ length (l .loop .out))
+  room =
+      let f = fits in
+      let e = same-size _ _ _ _ _ _ _ _ (l .loop .inv .1) (omega arith) in
+      let p = place _ _ _ _ _ _ _ _ (l .loop .inv .1) (omega arith) in
+      (e, omega arith)
 
   long : l .before .before .before .args .count ≤ length (l .before .before .before .args .t2)
   long = omega (arith, l .before .before .before .pre .0, l .before .before .before .good .1 .0 .1 .0 .1)
@@ -57,9 +58,7 @@ write-stretch-requires c κs =
     let l = c .before .before .before in
     let s = l .before .before .before in
     let (low, high) = counted-number (s .args .count) (s .args .t2) (long l) (s .pre .1) (l .loop .n) (omega arith) in
-    let f = fits l in
-    let e = size l in
-    let p = next l in
+    let (e, r) = room l in
     (l .loop .inv .1 .low, l .loop .inv .1 .high, low, high, omega arith, l .before .stretch-codes .ensures)
 
 add-signs : tie.Need-add-signs Inv-loop μ-loop
@@ -94,10 +93,7 @@ compose-requires c κs = c .before .before .before .before .before .pre .2
 
 write-clifford-requires : tie.Need-write-clifford-requires Inv-loop μ-loop
 write-clifford-requires c κs =
-    let l = c .before .before .before .before in
-    let f = fits l in
-    let e = size l in
-    let p = next l in
+    let (e, r) = room (c .before .before .before .before) in
     omega arith
 
 -- the last word is that of the columns behind number `before`
@@ -114,10 +110,7 @@ add-t27 c =
 same-length : tie.Need-same-length Inv-loop μ-loop
 same-length c =
     let w = c .before .before .before in
-    let l = w .before .before .before .before .before in
-    let f = fits l in
-    let e = size l in
-    let p = next l in
+    let (e, r) = room (w .before .before .before .before .before) in
     let n = word-length (w .before .before .compose .result) in
     written-length (w .write-clifford .ensures .0) (omega arith) ∙ e
 
