@@ -11,6 +11,7 @@ mod gates;
 mod judge;
 mod lent;
 mod lists;
+mod negatives;
 mod operators;
 mod orders;
 mod sheets;
@@ -26,6 +27,7 @@ fn main() -> ExitCode {
     let mut judge = Judge::new();
     trials::run(&mut judge);
     cliffords::run(&mut judge);
+    negatives::run(&mut judge);
     operators::run(&mut judge);
     lists::run(&mut judge);
     sheets::run(&mut judge);

@@ -17,7 +17,7 @@ use Rattle.clifford.specs.Columns.{signOf, timesSign}
 -- ---- signs alone
 
 -- the sign of a product is that of the sum
-pub sign-product : (s t : ℕ) → signOf (s % 2) *ℤ signOf (t % 2) ≡ signOf ((s + t) % 2)
+sign-product : (s t : ℕ) → signOf (s % 2) *ℤ signOf (t % 2) ≡ signOf ((s + t) % 2)
 sign-product s t = let e : (s % 2 + t % 2) % 2 ≡ (s + t) % 2 = omega arith in go (s % 2) (t % 2) (omega arith) (omega arith) ∙ ap signOf e
   where
     go : (a b : ℕ) → a < 2 → b < 2 → signOf a *ℤ signOf b ≡ signOf ((a + b) % 2)
