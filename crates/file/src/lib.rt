@@ -6,7 +6,7 @@ ghost use Prim.Native.Nat.{_+_, _*_, _<_, _≤_};
 ghost use lib.ListN.{length};
 ghost use mir.Syntax.{w16};
 ghost use mir.Val.{SFits};
-ghost use Rattle.file.specs.File.{Short, bits16, fileLength, fileMatrix, fileOf, noOperator, signed16, written};
+ghost use Rattle.file.specs.File.{Short, bits16, fileEntry, fileLength, fileMatrix, fileOf, noOperator, signed16, written};
 
 // The bytes of an operator file.
 pub const FILE_LENGTH: usize = 73;
@@ -55,6 +55,14 @@ fn signed(lo: u8, hi: u8) -> i64
     (u as i64) - 65536
 }
 
+// Entry n of a file: the 16 bits of bytes 1 + 2 n and 2 + 2 n.
+pub fn entry_at(bytes: &[u8], n: usize) -> i64
+    requires { ⌜ 3 + 2 * n ≤ length (now bytes) ⌝ }
+    ensures { λ r. ⌜ r ≡ fileEntry (now (bytes .entry)) n ⌝ }
+{
+    signed(bytes[1 + 2 * n], bytes[2 + 2 * n])
+}
+
 // The entries of an operator file.
 pub fn decode(bytes: &[u8]) -> [i64; 36]
     requires { ⌜ length (now bytes) ≡ fileLength ⌝ }
@@ -63,8 +71,7 @@ pub fn decode(bytes: &[u8]) -> [i64; 36]
     let mut m = [0i64; 36];
     let mut n = 0usize;
     while n < 36 {
-        let x = signed(bytes[1 + 2 * n], bytes[2 + 2 * n]);
-        m[n] = x;
+        m[n] = entry_at(bytes, n);
         n += 1;
     }
     m

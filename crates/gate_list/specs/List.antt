@@ -4,8 +4,11 @@ use mathlib.Core.Path.{_≡_}
 use mathlib.Core.Bool.{true}
 use mathlib.Core.List.{List, [], _∷_, _++_}
 use Prim.Native.Nat.{ℕ, _+_, _-_, _%_}
+use lib.IntN.{ℤ}
 use lib.ListN.{getD}
-use Rattle.clifford.specs.Columns.{arePermutation, isEven}
+use Rattle.matrix.specs.Matrix.{entry}
+use Rattle.clifford.specs.Columns.{columnBytes, arePermutation, isEven}
+use Rattle.reduction.specs.Reduction.{taken, remaining}
 use Rattle.letter.specs.declared.Gate.{Gate}
 use Rattle.letter.specs.declared.Gate.the-variants.{Cs}
 use Rattle.letter.specs.Composition.{composed, identityColumns}
@@ -84,3 +87,10 @@ gateList gs cs = stretches identityColumns gs cs
 -- "its result says which, 0 for M and 1 for −M" (document 02, P9)
 abbrev pub listSign : List ℕ → List ℕ → ℕ
 listSign gs cs = signs identityColumns gs cs % 2
+
+-- the list of an operator, by its normal form, and the sign of that
+abbrev pub listOf : ℕ → List ℤ → List Gate
+listOf k m = gateList (taken k m) (columnBytes (entry (remaining k m)))
+
+abbrev pub signOfList : ℕ → List ℤ → ℕ
+signOfList k m = listSign (taken k m) (columnBytes (entry (remaining k m)))

@@ -11,7 +11,7 @@ use Rattle.letter.specs.declared.Gate.the-variants.{H1, H2, S1, Cz, Cs}
 use Rattle.letter.specs.Gate.{letter}
 use Rattle.gate.specs.Product.{productOf}
 use Rattle.crossing.specs.Crossing.{stretchesOf, crossingNumber}
-use Rattle.gate_list.specs.Laws.List.{listOf, signOfList}
+use Rattle.gate_list.specs.List.{listOf, signOfList}
 
 pub data Trial : Type 0 where
   -- the operator of this exponent and matrix has this list and this sign

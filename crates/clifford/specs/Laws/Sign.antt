@@ -11,7 +11,7 @@ use Rattle.matrix.specs.Matrix.{Matrix, product, scaled}
 use Rattle.matrix.specs.Operator.{Operator, operator, timesOperator, SameOperator, SameUpToSign, Orthogonal, LeastExponent}
 use Rattle.matrix.specs.Laws.Integer.{*ℤ-assoc, *ℤ-left-comm, *ℤ-unit-l}
 use Rattle.matrix.specs.Laws.Matrix.{product-scaled-l, product-scaled-r}
-use Rattle.matrix.specs.Laws.Operator.{equal-times, same-operator-sym, same-operator-trans, same-operator-of, not-negative}
+use Rattle.matrix.specs.Laws.Operator.{equal-times, same-operator-sym, same-operator-trans, same-operator-of, times-same, not-negative}
 use Rattle.clifford.specs.Columns.{signOf, timesSign}
 
 -- ---- signs alone
@@ -92,6 +92,21 @@ up-to-sign s {A} {B} h = go (eqb s 0) h
 pub sign-of-both : {A B : Operator} → SameUpToSign A B → (s : ℕ) × SameOperator A (timesSign s B)
 sign-of-both {A} {B} (inl h) = (0, same-operator-trans h (same-operator-sym (sign-none B)))
 sign-of-both {A} {B} (inr h) = (1, h)
+
+pub up-sym : {A B : Operator} → SameUpToSign A B → SameUpToSign B A
+up-sym u = let (s, h) = sign-of-both u in up-to-sign s (same-operator-sym (sign-other s h))
+
+pub up-trans : {A B C : Operator} → SameUpToSign A B → SameUpToSign B C → SameUpToSign A C
+up-trans (inl p) (inl q) = inl (same-operator-trans p q)
+up-trans (inl p) (inr q) = inr (same-operator-trans p q)
+up-trans (inr p) (inl q) = inr (same-operator-trans p (sign-same 1 q))
+up-trans {C = C} (inr p) (inr q) = inl (same-operator-trans p (same-operator-trans (sign-same 1 q) (twice 1 C)))
+
+pub up-times : {A A′ B B′ : Operator} → SameUpToSign A A′ → SameUpToSign B B′ → SameUpToSign (timesOperator A B) (timesOperator A′ B′)
+up-times (inl p) (inl q) = inl (times-same p q)
+up-times {A′ = A} {B′ = B} (inl p) (inr q) = inr (same-operator-trans (times-same p q) (times-sign-r 1 A B))
+up-times {A′ = A} {B′ = B} (inr p) (inl q) = inr (same-operator-trans (times-same p (same-operator-trans q (same-operator-sym (sign-none B)))) (times-signs 1 0 A B))
+up-times {A′ = A} {B′ = B} (inr p) (inr q) = inl (same-operator-trans (times-same p q) (same-operator-trans (times-signs 1 1 A B) (sign-none (timesOperator A B))))
 
 -- "a number that follows from the letters": of the two signs one alone makes an operator what it is
 pub sign-follows : (s t : ℕ) → s ≤ 1 → t ≤ 1 → {A B : Operator} → Orthogonal B → SameOperator A (timesSign s B) → SameOperator A (timesSign t B) → s ≡ t

@@ -19,26 +19,8 @@ abbrev μ-loop : tie.MeasureT-loop
 loop-holds : tie.Need-loop-holds Inv-loop μ-loop
 loop-holds c = (search needs, filled-none _ _ _)
 
-mul-signed : tie.Need-mul-signed Inv-loop μ-loop
-mul-signed c = search needs
-
-add-signed : tie.Need-add-signed Inv-loop μ-loop
-add-signed c = search needs
-
-shared-slice-read-signed : tie.Need-shared-slice-read-signed Inv-loop μ-loop
-shared-slice-read-signed c = search needs
-
-mul-signed-2 : tie.Need-mul-signed-2 Inv-loop μ-loop
-mul-signed-2 c = search needs
-
-add-signed-2 : tie.Need-add-signed-2 Inv-loop μ-loop
-add-signed-2 c = search needs
-
-shared-slice-read-signed-2 : tie.Need-shared-slice-read-signed-2 Inv-loop μ-loop
-shared-slice-read-signed-2 c = search needs
-
-signed-requires : tie.Need-signed-requires Inv-loop μ-loop
-signed-requires c κs = search needs
+entry-at-requires : tie.Need-entry-at-requires Inv-loop μ-loop
+entry-at-requires c κs = search needs
 
 mul-m : tie.Need-mul-m Inv-loop μ-loop
 mul-m c = search needs
@@ -54,8 +36,8 @@ loop-less c = search needs
 
 loop-again : tie.Need-loop-again Inv-loop μ-loop
 loop-again c =
-    let l = c .before .before .before .before in
-    (search needs, filled-more _ _ _ (l .loop .n) (l .loop .m) _ (l .loop .inv .1) (omega arith) (kept (c .signed .ok) ∙ c .signed .ensures))
+    let l = c .before .before in
+    (search needs, filled-more _ _ _ (l .loop .n) (l .loop .m) _ (l .loop .inv .1) (omega arith) (kept (c .entry-at .ok) ∙ c .entry-at .ensures))
 
 returns : tie.Need-returns Inv-loop μ-loop
 unfolding fileMatrix
@@ -70,13 +52,7 @@ decode-spec =
     Inv-loop
     μ-loop
     loop-holds
-    mul-signed
-    add-signed
-    shared-slice-read-signed
-    mul-signed-2
-    add-signed-2
-    shared-slice-read-signed-2
-    signed-requires
+    entry-at-requires
     mul-m
     array-set-from-m
     add-n

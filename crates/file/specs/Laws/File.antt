@@ -47,13 +47,17 @@ unfolding fileMatrix
 length-file-matrix b = length-tabulate (fileEntry b) 0 36
 
 module _ (b : List ℕ) (bytes : (i : ℕ) → getD b i 0 < 256) where
+  pub entry-size : (n : ℕ) → natAbs (fileEntry b n) ≤ 2 ^ 15
+  entry-size n =
+      let x = bytes (1 + 2 * n) in
+      let y = bytes (2 + 2 * n) in
+      signed16-size (getD b (1 + 2 * n) 0 + 256 * getD b (2 + 2 * n) 0) (omega arith)
+
   pub file-entry-size : (n : ℕ) → n < 36 → natAbs (getD (fileMatrix b) n (pos 0)) ≤ 2 ^ 15
   unfolding fileMatrix
   file-entry-size n h =
-      let x = bytes (1 + 2 * n) in
-      let y = bytes (2 + 2 * n) in
       let e : 0 + n ≡ n = omega arith in
-      rw (getD-tabulate (fileEntry b) 0 36 n (pos 0) h, e) (signed16-size (getD b (1 + 2 * n) 0 + 256 * getD b (2 + 2 * n) 0) (omega arith))
+      rw (getD-tabulate (fileEntry b) 0 36 n (pos 0) h, e) (entry-size n)
 
   -- small enough for the arithmetic of crate `matrix`
   pub file-bounded : Bounded (2 ^ 30) (entry (fileMatrix b))

@@ -35,7 +35,7 @@ use Rattle.gate.specs.Product.{image, productOf, MultipliesTo, csGates}
 use Rattle.gate.specs.Laws.Product.{product-append, fewest}
 use Rattle.crossing.specs.Crossing.{EachStretch}
 use Rattle.crossing.specs.Laws.Stretch.{each-one, each-more}
-use Rattle.gate_list.specs.List.{IsClifford, lefts, rights, leftOf, rightOf, stretchSign, stretches, signs, gateList, listSign}
+use Rattle.gate_list.specs.List.{IsClifford, lefts, rights, leftOf, rightOf, stretchSign, stretches, signs, listOf, signOfList}
 use Rattle.gate_list.specs.Promise.{ListFor}
 use Rattle.gate_list.specs.Laws.Word.{clifford, clifford-word, times-clifford, composed-clifford, clifford-fewest}
 
@@ -149,12 +149,6 @@ stretches-length bs (g ∷ gs) cs =
     omega arith
 
 -- ---- the theorem: every proper orthogonal operator or its negative is the product of a list with exactly its least exponent many letters C
-
-abbrev pub listOf : ℕ → List ℤ → List Gate
-listOf k m = gateList (taken k m) (columnBytes (entry (remaining k m)))
-
-abbrev pub signOfList : ℕ → List ℤ → ℕ
-signOfList k m = listSign (taken k m) (columnBytes (entry (remaining k m)))
 
 pub identity-clifford : IsClifford identityColumns
 unfolding arePermutation isEven

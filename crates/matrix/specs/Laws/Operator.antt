@@ -41,12 +41,12 @@ unfolding raised
 raised-raised zero l x = refl
 raised-raised (suc k) l x = ap root (raised-raised k l x) ∙ sym (raised-root l (raised k x))
 
-raised-sum : (k l : ℕ) (x : Surd) → raised (k + l) x ≡ raised k (raised l x)
+pub raised-sum : (k l : ℕ) (x : Surd) → raised (k + l) x ≡ raised k (raised l x)
 unfolding raised
 raised-sum zero l x = ap (λ m. raised m x) (zero-add l)
 raised-sum (suc k) l x = ap (λ m. raised m x) (suc-add k l) ∙ ap root (raised-sum k l x)
 
-raised-inj : (k : ℕ) (x y : Surd) → raised k x ≡ raised k y → x ≡ y
+pub raised-inj : (k : ℕ) (x y : Surd) → raised k x ≡ raised k y → x ≡ y
 unfolding raised
 raised-inj zero x y e = e
 raised-inj (suc k) x y e =
@@ -69,7 +69,7 @@ raised-times zero s x = refl
 raised-times (suc k) s x = ap root (raised-times k s x) ∙ ap₂ surd (sym (*ℤ-distr-l s ((raised k x) .1) ((raised k x) .1))) refl
 
 -- an even power of √2 is a power of 2
-raised-twice : (d : ℕ) (x : ℤ) → raised (d + d) (whole x) ≡ whole (pos (2 ^ d) *ℤ x)
+pub raised-twice : (d : ℕ) (x : ℤ) → raised (d + d) (whole x) ≡ whole (pos (2 ^ d) *ℤ x)
 unfolding raised
 raised-twice zero x = ap₂ surd (sym (*ℤ-unit-l x)) refl
 raised-twice (suc d) x =

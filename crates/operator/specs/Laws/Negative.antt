@@ -16,8 +16,8 @@ use Rattle.reduction.specs.Laws.NormalForm.{cutting}
 use Rattle.reduction.specs.Laws.Negative.{negativeOf, negative-same, negative-array-orthogonal, taken-negative}
 use Rattle.sheet_bytes.specs.Laws.Sheet.{columnsLeft, columns-negative}
 use Rattle.letter.specs.Composition.{identityColumns}
-use Rattle.gate_list.specs.List.{gateList, signs}
-use Rattle.gate_list.specs.Laws.List.{listOf, signOfList, identity-clifford, left-clifford}
+use Rattle.gate_list.specs.List.{gateList, signs, listOf, signOfList}
+use Rattle.gate_list.specs.Laws.List.{identity-clifford, left-clifford}
 use Rattle.gate_list.specs.Laws.Negative.{stretches-negated, signs-negated}
 
 module _ (k : ℕ) (m : List ℤ) (o : Orthogonal (operator k (entry m))) (p : Proper (operator k (entry m))) where

@@ -19,9 +19,9 @@ use Rattle.reduction.specs.Reduction.{remaining}
 use Rattle.reduction.specs.Laws.NormalForm.{Cutting, cutting}
 use Rattle.letter.specs.Gate.{letter}
 use Rattle.letter.specs.Written.{Written}
-use Rattle.gate_list.specs.List.{gateList, listSign}
+use Rattle.gate_list.specs.List.{gateList, listSign, listOf, signOfList}
 use Rattle.gate_list.specs.Promise.{ListFor}
-use Rattle.gate_list.specs.Laws.List.{listOf, signOfList, list-of}
+use Rattle.gate_list.specs.Laws.List.{list-of}
 use Rattle.sheet_bytes.specs.Bytes.{shortest, sheetBytes, sheet, sheetOperator}
 use Rattle.sheet_bytes.specs.Laws.Sheet.{length-sheet, sheet-back}
 use Rattle.sheet_bytes.specs.Laws.Count.{sheet-first}
