@@ -1,8 +1,8 @@
 -- Gaussian integers, their sums, and square matrices of them. A matrix is a function of a row and a column, both counted from 0.
 use mathlib.Core.Path.{_≡_}
 use mathlib.Core.Bool.{Bool, _&&_}
-use Prim.Native.Nat.{ℕ, zero, suc, _<_}
-use lib.IntN.{ℤ, pos, negℤ, _+ℤ_, _-ℤ_, _*ℤ_}
+use Prim.Native.Nat.{ℕ, zero, suc, _<_, _≤_}
+use lib.IntN.{ℤ, pos, natAbs, negℤ, _+ℤ_, _-ℤ_, _*ℤ_}
 use Rattle.matrix.specs.Range.{every}
 use Rattle.matrix.specs.Matrix.{δ}
 use Rattle.gaussian.specs.declared.Gaussian.{Gaussian}
@@ -26,6 +26,15 @@ x ⊗ y = gaussian (x .re *ℤ y .re -ℤ x .im *ℤ y .im) (x .re *ℤ y .im +�
 
 unfoldable pub conj : Gaussian → Gaussian
 conj x = gaussian (x .re) (negℤ (x .im))
+
+-- the square of its size
+unfoldable pub normOf : Gaussian → ℤ
+normOf x = x .re *ℤ x .re +ℤ x .im *ℤ x .im
+
+-- neither part is larger than b, in size: what rules out overflow
+pub record Within (b : ℕ) (x : Gaussian) : Type 0 where
+  pub re : natAbs (x .re) ≤ b
+  pub im : natAbs (x .im) ≤ b
 
 -- x to the power n
 unfoldable pub power : Gaussian → ℕ → Gaussian

@@ -3,3 +3,4 @@ pub mod Gaussian
 pub mod Matrix
 pub mod Power
 pub mod Descent
+pub mod Size

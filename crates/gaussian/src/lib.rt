@@ -1,7 +1,53 @@
-// Gaussian integers. Their arithmetic and the matrices of them are in specs/.
+// Gaussian integers, far from overflow. The contracts cite specs/Gaussian.antt.
+
+ghost use mathlib.Core.Path.{_≡_};
+ghost use Prim.Native.Nat.{_^_};
+ghost use Rattle.gaussian.specs.Gaussian.{Within, _⊕_, _⊖_, _⊗_, conj};
 
 // re + im i
 pub struct Gaussian {
     pub re: i64,
     pub im: i64,
+}
+
+pub fn plus(a: Gaussian, b: Gaussian) -> Gaussian
+    requires { ⌜ Within (2 ^ 60) a × Within (2 ^ 60) b ⌝ }
+    ensures { λ r. ⌜ r ≡ a ⊕ b ⌝ }
+{
+    Gaussian {
+        re: a.re + b.re,
+        im: a.im + b.im,
+    }
+}
+
+pub fn minus(a: Gaussian, b: Gaussian) -> Gaussian
+    requires { ⌜ Within (2 ^ 60) a × Within (2 ^ 60) b ⌝ }
+    ensures { λ r. ⌜ r ≡ a ⊖ b ⌝ }
+{
+    Gaussian {
+        re: a.re - b.re,
+        im: a.im - b.im,
+    }
+}
+
+// Wrong, and refused: the sum of the products for the real part; the imaginary parts left out of it.
+pub fn times(a: Gaussian, b: Gaussian) -> Gaussian
+    requires { ⌜ Within (2 ^ 15) a × Within (2 ^ 40) b ⌝ }
+    ensures { λ r. ⌜ r ≡ a ⊗ b ⌝ }
+{
+    Gaussian {
+        re: a.re * b.re - a.im * b.im,
+        im: a.re * b.im + a.im * b.re,
+    }
+}
+
+// Wrong, and refused: the number itself; its negative.
+pub fn conjugate(a: Gaussian) -> Gaussian
+    requires { ⌜ Within (2 ^ 60) a ⌝ }
+    ensures { λ r. ⌜ r ≡ conj a ⌝ }
+{
+    Gaussian {
+        re: a.re,
+        im: 0 - a.im,
+    }
 }

@@ -7,7 +7,7 @@ ghost use Rattle.matrix.specs.Matrix.{entry};
 ghost use Rattle.matrix.specs.Array.{Bounded, orthogonalAt, isOrthogonal, isWithin};
 
 // 2 to the power k.
-fn power_of_two(k: u8) -> i64
+pub fn power_of_two(k: u8) -> i64
     requires { ⌜ k ≤ 60 ⌝ }
     ensures { λ r. ⌜ r ≡ pos (2 ^ k) ⌝ }
 {

@@ -3,7 +3,7 @@
 use mathlib.Core.Path.{_≡_}
 use mathlib.Core.List.{List, [], _∷_}
 use Prim.Native.Nat.{ℕ, _+_, _*_, _<_}
-use lib.IntN.{pos, negsuc, negℤ}
+use lib.IntN.{pos, negsuc}
 use lib.ListN.{getD}
 use Rattle.matrix.specs.Operator.{Operator, operator, SameOperator}
 use Rattle.gaussian.specs.declared.Gaussian.{Gaussian}

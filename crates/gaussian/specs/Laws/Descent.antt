@@ -11,8 +11,8 @@ use Rattle.matrix.specs.Laws.Integer.{natAbs-zero, square-size, *ℤ-cancel-l, 
 use Rattle.matrix.specs.Laws.Parity.{parity-cases, parity-add, parity-mul, parity-double, half-sum, half-minus}
 use Rattle.matrix.specs.Laws.Ring.{var, num, _:+_, _:-_, _:*_, _:=_, _of_, times-by}
 use Rattle.gaussian.specs.declared.Gaussian.{Gaussian}
-use Rattle.gaussian.specs.Gaussian.{gaussian, unit, one+i, _⊗_, power}
-use Rattle.gaussian.specs.Laws.Gaussian.{normOf, norm-⊗, ⊗-left-comm}
+use Rattle.gaussian.specs.Gaussian.{gaussian, unit, one+i, _⊗_, power, normOf}
+use Rattle.gaussian.specs.Laws.Gaussian.{norm-⊗, ⊗-left-comm}
 
 -- ---- square norm 1
 

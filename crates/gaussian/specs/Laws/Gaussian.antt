@@ -10,7 +10,7 @@ use Rattle.matrix.specs.Laws.Integer.{no-zero-divisors, pos-nz}
 use Rattle.matrix.specs.Laws.Ring.{Exp, var, num, _:+_, _:-_, _:*_, :neg, eval, nil, norm, ring}
 use Rattle.matrix.specs.Laws.Sum.{sum-squares-zero}
 use Rattle.gaussian.specs.declared.Gaussian.{Gaussian}
-use Rattle.gaussian.specs.Gaussian.{gaussian, real, _⊕_, _⊖_, _⊗_, conj, power, sum}
+use Rattle.gaussian.specs.Gaussian.{gaussian, real, _⊕_, _⊖_, _⊗_, conj, normOf, power}
 
 -- ---- the solver: an expression over Gaussian integers is two over whole numbers
 
@@ -181,9 +181,6 @@ conj-power x zero = conj-real (pos 1)
 conj-power x (suc n) = conj-⊗ x (power x n) ∙ ap (λ y. conj x ⊗ y) (conj-power x n)
 
 -- ---- square norms, and cancellation
-
-unfoldable pub normOf : Gaussian → ℤ
-normOf x = x .re *ℤ x .re +ℤ x .im *ℤ x .im
 
 pub norm-⊗ : (a b : Gaussian) → normOf (a ⊗ b) ≡ normOf a *ℤ normOf b
 unfolding normOf _⊗_

@@ -13,10 +13,10 @@ use Rattle.matrix.specs.Laws.Operator.{same-operator-trans, same-operator-of}
 use Rattle.letter.specs.declared.Gate.{Gate}
 use Rattle.gate.specs.Product.{productOf}
 use Rattle.gaussian.specs.declared.Gaussian.{Gaussian}
-use Rattle.gaussian.specs.Gaussian.{gaussian, real, unit, one+i, _⊗_, conj, power, Matrix, Same, identity, product, adjoint, scaled}
+use Rattle.gaussian.specs.Gaussian.{gaussian, real, unit, one+i, _⊗_, conj, power, Matrix, Same, identity, product, adjoint, scaled, normOf}
 use Rattle.unitary.specs.Unitary.{Quotient, Unitary, plainOf, Gives}
 use Rattle.unitary.specs.Form.{formAt, Real}
-use Rattle.gaussian.specs.Laws.Gaussian.{ringᴳ, ⊗-assoc, ⊗-zero, zero-⊗, ⊗-unit-r, real-times, normOf, times-conj, power-sum}
+use Rattle.gaussian.specs.Laws.Gaussian.{ringᴳ, ⊗-assoc, ⊗-zero, zero-⊗, ⊗-unit-r, real-times, times-conj, power-sum}
 use Rattle.gaussian.specs.Laws.Matrix.{sum-only, product-assoc, product-scalar-l, product-scalar-r}
 use Rattle.gaussian.specs.Laws.Descent.{descent}
 use Rattle.gaussian.specs.Laws.Power.{norm, norm-sum, twice-unit, eight}

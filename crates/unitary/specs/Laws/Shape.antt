@@ -12,10 +12,10 @@ use Rattle.matrix.specs.Operator.{Orthogonal}
 use Rattle.matrix.specs.Laws.Integer.{self-neg, pos-nz, *ℤ-assoc, *ℤ-cancel-l}
 use Rattle.matrix.specs.Laws.Ring.{var, num, :neg, _:+_, _:*_, ring}
 use Rattle.gaussian.specs.declared.Gaussian.{Gaussian}
-use Rattle.gaussian.specs.Gaussian.{gaussian, real, unit, one+i, _⊗_, conj, power, identity, product, adjoint}
+use Rattle.gaussian.specs.Gaussian.{gaussian, real, unit, one+i, _⊗_, conj, power, identity, product, adjoint, normOf}
 use Rattle.unitary.specs.Unitary.{Quotient, Unitary}
 use Rattle.unitary.specs.Form.{sixForm, formEntry, formAt, Real}
-use Rattle.gaussian.specs.Laws.Gaussian.{⊗-assoc, ⊗-comm, ⊗-unit-l, ⊗-cancel-l, prodᴳ, ⊗-swap, power-sum, conj-⊗, conj-real, conj-power, normOf, norm-⊗, times-conj, real-⊗, real-times}
+use Rattle.gaussian.specs.Laws.Gaussian.{⊗-assoc, ⊗-comm, ⊗-unit-l, ⊗-cancel-l, prodᴳ, ⊗-swap, power-sum, conj-⊗, conj-real, conj-power, norm-⊗, times-conj, real-⊗, real-times}
 use Rattle.gaussian.specs.Laws.Matrix.{real-sum, sum-cong, mul-sum, scaled-rows}
 use Rattle.gaussian.specs.Laws.Power.{power-conj, power-is, unit-four, real-nz, one+i-nz, conj-nz, ⊗-nz}
 use Rattle.gaussian.specs.Laws.Descent.{descent}

@@ -8,14 +8,12 @@ use native.Mathlib.Omega.{arith}
 use native.Mathlib.Decide.{decLe}
 use native.Mathlib.Nat.{zero-add}
 use lib.Pow.{pow-add, pow-pos}
-use lib.IntN.{pos, negsuc, negℤ, negℤ-negℤ, _*ℤ_, zero-*ℤ, *ℤ-zero}
-use Rattle.matrix.specs.Matrix.{δ}
+use lib.IntN.{pos, negsuc, _*ℤ_, zero-*ℤ, *ℤ-zero}
 use Rattle.matrix.specs.Operator.{Operator, operator, SameOperator, SameUpToSign, negative}
-use Rattle.matrix.specs.Laws.Integer.{no-zero-divisors, pos-nz, negℤ-*ℤ-l, *ℤ-unit-r, *ℤ-cancel-l}
-use Rattle.matrix.specs.Laws.Ring.{var, num, :neg, _:+_, _:*_, ring}
-use Rattle.matrix.specs.Laws.Sum.{sum-cong, sum-zero, sum-neg, δ-same}
-use Rattle.matrix.specs.Laws.Matrix.{product-id-l}
-use Rattle.matrix.specs.Laws.Operator.{same-operator-refl, same-operator-sym, same-operator-trans, same-operator-of, times-same}
+use Rattle.matrix.specs.Laws.Integer.{no-zero-divisors, pos-nz, *ℤ-unit-r, *ℤ-cancel-l}
+use Rattle.matrix.specs.Laws.Ring.{var, num, _:+_, _:*_, ring}
+use Rattle.matrix.specs.Laws.Sum.{sum-cong, sum-zero, δ-same}
+use Rattle.matrix.specs.Laws.Operator.{same-operator-refl, same-operator-sym, same-operator-trans, same-operator-of}
 use Rattle.clifford.specs.Laws.Sign.{up-sym, up-trans}
 use Rattle.letter.specs.declared.Gate.{Gate}
 use Rattle.gate.specs.Product.{productOf}
