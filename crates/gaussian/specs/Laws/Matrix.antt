@@ -9,7 +9,7 @@ use lib.IntN.{ℤ, pos}
 use Rattle.matrix.specs.Range.{every}
 use Rattle.matrix.specs.Laws.Test.{and-left, and-right}
 use Rattle.matrix.specs.Laws.Integer.{equals-eq, equals-yes}
-use Rattle.matrix.specs.Laws.Range.{every-sound, every-complete}
+use Rattle.matrix.specs.Laws.Range.{every-sound}
 use Rattle.matrix.specs.Laws.Sum.{δ-same, δ-other, δ-sym}
 use Rattle.gaussian.specs.declared.Gaussian.{Gaussian}
 use Rattle.gaussian.specs.Gaussian.{gaussian, real, _⊕_, _⊗_, conj, sum, Matrix, Same, identity, product, adjoint, transpose, scaled, equals, sameTest}
@@ -123,15 +123,15 @@ product-scalar-r n c A D h i k hi hk =
 
 -- ---- equality as a test
 
+pub equals-sound : (x y : Gaussian) → equals x y ≡ true → x ≡ y
+equals-sound x y t =
+    let p = Rattle.matrix.specs.Integer.equals (x .re) (y .re) in
+    let q = Rattle.matrix.specs.Integer.equals (x .im) (y .im) in
+    ap₂ gaussian (equals-eq (x .re) (y .re) (and-left p q t)) (equals-eq (x .im) (y .im) (and-right p q t))
+
+pub equals-complete : {x y : Gaussian} → x ≡ y → equals x y ≡ true
+equals-complete e = ap₂ (λ p q. p && q) (equals-yes (ap (λ z. z .re) e)) (equals-yes (ap (λ z. z .im) e))
+
 pub same-sound : (m n : ℕ) (A B : Matrix) → sameTest m n A B ≡ true → (i j : ℕ) → i < m → j < n → A i j ≡ B i j
 same-sound m n A B e i j hi hj =
-    let t = every-sound n (λ j. equals (A i j) (B i j)) (every-sound m (λ i. every n (λ j. equals (A i j) (B i j))) e i hi) j hj in
-    let p = Rattle.matrix.specs.Integer.equals (A i j .re) (B i j .re) in
-    let q = Rattle.matrix.specs.Integer.equals (A i j .im) (B i j .im) in
-    ap₂ gaussian (equals-eq (A i j .re) (B i j .re) (and-left p q t)) (equals-eq (A i j .im) (B i j .im) (and-right p q t))
-
-pub same-complete : (m n : ℕ) (A B : Matrix) → ((i j : ℕ) → i < m → j < n → A i j ≡ B i j) → sameTest m n A B ≡ true
-same-complete m n A B h =
-    every-complete m (λ i. every n (λ j. equals (A i j) (B i j))) (λ i hi.
-    every-complete n (λ j. equals (A i j) (B i j)) (λ j hj.
-    ap₂ (λ p q. p && q) (equals-yes (ap (λ z. z .re) (h i j hi hj))) (equals-yes (ap (λ z. z .im) (h i j hi hj)))))
+    equals-sound (A i j) (B i j) (every-sound n (λ j. equals (A i j) (B i j)) (every-sound m (λ i. every n (λ j. equals (A i j) (B i j))) e i hi) j hj)
