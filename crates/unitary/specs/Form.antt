@@ -1,11 +1,17 @@
 -- The six-by-six form of a unitary: how N acts on antisymmetric matrices A, by N A Nᵀ, in a basis in which the images of the plain gates are,
 -- up to a power of ω, those of document 01.
+use mathlib.Core.Bool.{Bool}
 use mathlib.Core.Path.{_≡_}
 use mathlib.Core.List.{List, [], _∷_}
 use Prim.Native.Nat.{ℕ, _+_, _*_, _<_}
 use lib.IntN.{pos, negsuc}
 use lib.ListN.{getD}
+use Rattle.matrix.specs.Integer.{equals}
+use Rattle.matrix.specs.Range.{firstFrom}
+use Rattle.matrix.specs.Array.{everywhere}
 use Rattle.matrix.specs.Operator.{Operator, operator, SameOperator}
+use Rattle.clifford.specs.Columns.{timesSign}
+use Rattle.sheet_bytes.specs.Bytes.{sheetOf, sheetSign}
 use Rattle.gaussian.specs.declared.Gaussian.{Gaussian}
 use Rattle.gaussian.specs.Gaussian.{gaussian, real, unit, one+i, _⊖_, _⊗_, power, Matrix, product, adjoint}
 use Rattle.unitary.specs.Unitary.{Quotient}
@@ -68,3 +74,20 @@ pub record IsForm (U : Quotient) (A : Operator) : Type 0 where
   pub turn : ℕ
   pub is-real : Real turn U
   pub same : SameOperator (formAt turn U) A
+
+-- ---- the form of sign byte 0
+
+-- whether ω to the power t makes the form real
+unfoldable pub isReal : ℕ → Quotient → Bool
+isReal t U = everywhere (λ r c. equals (formEntry t U r c .im) (pos 0))
+
+-- the first power that does: for every unitary one from 0 to 3 does
+abbrev pub turnOf : Quotient → ℕ
+turnOf U = firstFrom (λ t. isReal t U) 0 4
+
+abbrev pub realForm : Quotient → Operator
+realForm U = formAt (turnOf U) U
+
+-- "the form of sign byte 0": of the two forms, which are each other's negatives, the one whose sheet says so
+abbrev pub formOf : Quotient → Operator
+formOf U = timesSign (sheetSign (sheetOf (realForm U))) (realForm U)

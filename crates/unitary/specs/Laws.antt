@@ -4,6 +4,7 @@ pub mod Compound
 pub mod Form
 pub mod Shape
 pub mod Product
+pub mod Part
 pub mod Plain
 pub mod Quotient
 pub mod Turn
@@ -12,3 +13,4 @@ pub mod Mirror
 pub mod Compare
 pub mod Given
 pub mod Proper
+pub mod Exact

@@ -67,6 +67,15 @@ sum-only (suc n) j f l h = elim (ℕ-discrete j n) [
   | no d ↦ ap₂ (λ x y. x ⊕ y) (sum-only n j f (omega arith) (λ i u w. h i (omega arith) w)) (h n (omega arith) (λ e. d (sym e))) ∙ ⊕-idr (f j)
 ]
 
+-- two indices only
+pub sum-two : (n i j : ℕ) (f : ℕ → Gaussian) → i < j → j < n → ((l : ℕ) → l < n → l ≢ i → l ≢ j → f l ≡ real (pos 0)) → sum n f ≡ f i ⊕ f j
+unfolding sum
+sum-two zero i j f u l h = absurd (omega arith)
+sum-two (suc n) i j f u l h = elim (ℕ-discrete j n) [
+  | yes e ↦ ap₂ (λ x y. x ⊕ y) (sum-only n i f (omega arith) (λ m v w. h m (omega arith) w (omega arith))) (ap f (sym e))
+  | no d ↦ ap₂ (λ x y. x ⊕ y) (sum-two n i j f u (omega arith) (λ m v w z. h m (omega arith) w z)) (h n (omega arith) (omega arith) (λ e. d (sym e))) ∙ ⊕-idr (f i ⊕ f j)
+]
+
 pub sum-δ : (n j : ℕ) (f : ℕ → Gaussian) → j < n → sum n (λ i. identity i j ⊗ f i) ≡ f j
 sum-δ n j f l =
     sum-only n j (λ i. identity i j ⊗ f i) l (λ i m w. ap (λ x. real x ⊗ f i) (δ-other i j w) ∙ zero-⊗ (f i))

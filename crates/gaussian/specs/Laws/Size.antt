@@ -1,9 +1,8 @@
 -- How large sums, differences and products of Gaussian integers are.
-use mathlib.Core.Path.{sym, ap}
 use Prim.Native.Nat.{ℕ, zero, suc, _+_, _*_, _<_, _≤_}
 use native.Mathlib.Nat.{le-trans, add-le-add, suc-mul}
 use native.Mathlib.Omega.{arith}
-use lib.IntN.{negℤ, natAbs, _*ℤ_}
+use lib.IntN.{_*ℤ_}
 use Rattle.matrix.specs.Laws.Integer.{natAbs-add-le, natAbs-minus-le, natAbs-mul-le, natAbs-neg}
 use Rattle.gaussian.specs.declared.Gaussian.{Gaussian}
 use Rattle.gaussian.specs.Gaussian.{Within, _⊕_, _⊖_, _⊗_, conj, sum}

@@ -63,7 +63,7 @@ module _ (bs : List ℕ) (p : Permutation bs) where
   first-negated : isMinus (getD (signed 1 bs) 0 0) ≡ not (isMinus (getD bs 0 0))
   first-negated = let l = p .long in ap isMinus (signed-at 1 bs 0 (omega arith)) ∙ negated-minus (getD bs 0 0) (p .bytes 0 (omega arith))
 
-  sign-negated : signByte (signed 1 bs) ≡ 1 - signByte bs
+  pub sign-negated : signByte (signed 1 bs) ≡ 1 - signByte bs
   sign-negated = ap (λ t. cond t 1 0) first-negated ∙ go (isMinus (getD bs 0 0))
     where
       go : (t : Bool) → _≡_ {A = ℕ} (cond (not t) 1 0) (1 - cond t 1 0)

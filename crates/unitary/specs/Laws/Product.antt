@@ -75,7 +75,7 @@ pub listTurn : List Gate → ℕ
 listTurn [] = 0
 listTurn (g ∷ w) = gateTurn g + listTurn w
 
-gate-real : (g : Gate) → Real (gateTurn g) (plain g)
+pub gate-real : (g : Gate) → Real (gateTurn g) (plain g)
 gate-real g r c hr hc = ap (λ z. z .im) (plain-form g r c hr hc)
 
 exponents : (g : Gate) → gateTurn g + (2 * plain g .exponent + 2) ≡ image g .exponent + 8
@@ -87,7 +87,7 @@ exponents S2 = refl
 exponents Cz = refl
 exponents Cs = refl
 
-gate-form : (g : Gate) → SameOperator (formAt (gateTurn g) (plain g)) (image g)
+pub gate-form : (g : Gate) → SameOperator (formAt (gateTurn g) (plain g)) (image g)
 gate-form g =
     same-operator-trans
     (same-operator-of (formAt (gateTurn g) (plain g)) (operator (image g .exponent + 8) (λ r c. pos 16 *ℤ image g .matrix r c)) (exponents g) (λ r c hr hc. ap (λ z. z .re) (plain-form g r c hr hc)))

@@ -39,10 +39,10 @@ module _ (U : Quotient) (o : Unitary U) where
       more 4 s h r c hr hc ∙ real-⊗ (negsuc 3) (formEntry s U r c .re)
       ∙ ap real (ring (formEntry s U r c .re ∷ []) (num (negsuc 3) :* var 0) (num (pos 4) :* (num (negsuc 0) :* var 0)) refl)
 
-  four-real : (s : ℕ) → Real s U → Real (4 + s) U
+  pub four-real : (s : ℕ) → Real s U → Real (4 + s) U
   four-real s h r c hr hc = ap (λ z. z .im) (four s h r c hr hc)
 
-  four-form : (s : ℕ) → Real s U → SameOperator (formAt (4 + s) U) (negative (formAt s U))
+  pub four-form : (s : ℕ) → Real s U → SameOperator (formAt (4 + s) U) (negative (formAt s U))
   four-form s h =
       same-operator-trans
       (same-operator-of (formAt (4 + s) U) (operator (s + (2 * U .exponent + 2) + (2 + 2)) (λ r c. pos 4 *ℤ (negsuc 0 *ℤ formEntry s U r c .re))) (omega arith) (λ r c hr hc. ap (λ z. z .re) (four s h r c hr hc)))

@@ -10,7 +10,6 @@ use mir.Val.{toZ, ofZ}
 use Rattle.matrix.specs.Laws.Machine.{Sized, fits, again, stored, add, mul}
 use Rattle.gaussian.specs.declared.Gaussian.{Gaussian}
 use Rattle.gaussian.specs.Gaussian.{Within, normOf}
-use Rattle.unitary.specs.Unitary.{matrixOf}
 use Rattle.unitary_file.specs.Laws.Unitary.{narrow-within}
 use Rattle.unitary_file.proofs.square_size.Statement.{statement}
 use Rattle.unitary_file.proofs.square_size.Tie as tie

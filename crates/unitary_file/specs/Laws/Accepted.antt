@@ -1,6 +1,6 @@
 -- The tests for the entries are passed by unitaries and by nothing else: a unitary's entries are all small.
 use mathlib.Core.Path.{_≡_, refl, sym, ap, ap₂, _∙_}
-use mathlib.Core.Bool.{Bool, true, false, not, cond, _||_, _&&_}
+use mathlib.Core.Bool.{Bool, true, false, not, cond, _||_}
 use mathlib.Core.List.{List}
 use Prim.Native.Nat.{ℕ, _+_, _*_, _/_, _%_, _^_, _<_, _≤_}
 use native.Mathlib.Omega.{arith}
@@ -11,13 +11,11 @@ use lib.ListN.{length}
 use lib.Signed.{leZ}
 use Rattle.matrix.specs.Matrix.{δ}
 use Rattle.matrix.specs.Integer as integer
-use Rattle.matrix.specs.Laws.Test.{and-left, and-right}
-use Rattle.matrix.specs.Laws.Integer.{square-size, equals-eq, equals-yes, *ℤ-unit-r}
+use Rattle.matrix.specs.Laws.Integer.{square-size, *ℤ-unit-r}
 use Rattle.matrix.specs.Laws.Range.{every-sound, every-complete}
 use Rattle.matrix.specs.Laws.Sum.{term-le-sum, δ-same}
 use Rattle.file.specs.File.{fileExponent}
-use Rattle.gaussian.specs.declared.Gaussian.{Gaussian}
-use Rattle.gaussian.specs.Gaussian.{gaussian, real, _⊗_, conj, normOf, product, adjoint, equals}
+use Rattle.gaussian.specs.Gaussian.{real, _⊗_, normOf, product, adjoint}
 use Rattle.gaussian.specs.Laws.Gaussian.{real-⊗, times-conj}
 use Rattle.gaussian.specs.Laws.Matrix.{sum-cong, real-sum, equals-sound, equals-complete}
 use Rattle.unitary.specs.Unitary.{Quotient, Unitary}

@@ -1,11 +1,9 @@
 -- What the numbers of a unitary's bytes are, how large they are, and what passing the tests means.
-use mathlib.Core.Path.{_≡_, refl, sym, ap, _∙_}
 use mathlib.Core.List.{List}
-use Prim.Native.Nat.{ℕ, _+_, _*_, _^_, _<_, _≤_}
+use Prim.Native.Nat.{ℕ, _+_, _*_, _^_, _≤_}
 use native.Mathlib.Omega.{arith}
-use lib.IntN.{ℤ, pos, natAbs}
-use lib.ListN.{getD}
-use Rattle.gaussian.specs.Gaussian.{Within, _⊗_, conj, adjoint, product, sum}
+use lib.IntN.{ℤ}
+use Rattle.gaussian.specs.Gaussian.{Within, _⊗_, adjoint, product, sum}
 use Rattle.gaussian.specs.Laws.Size.{within-more, within-⊗, within-conj, within-sum}
 use Rattle.unitary.specs.Unitary.{matrixOf}
 use Rattle.unitary_file.specs.Unitary.{Narrow}
