@@ -71,6 +71,9 @@ module _ (U : Quotient) (o : Unitary U) where
   pub turn-real : Real (turnOf U) U
   turn-real = real-sound (turnOf U) (first .holds)
 
+  pub turn-small : turnOf U < 4
+  turn-small = first .below
+
   signed-form : (s : ℕ) → IsForm U (timesSign s (realForm U))
   signed-form s = go (eqb s 0)
     where
@@ -91,7 +94,7 @@ module _ (U : Quotient) (o : Unitary U) where
 
   bound : (l : ℕ) → LeastExponent (formOf U) l → l ≤ 2 * U .exponent + 2
   bound l h =
-      let (B, b, u) = part (turnOf U) (first .below) turn-real in
+      let (B, b, u) = part (turnOf U) turn-small turn-real in
       let (s, e) = sign-of-both (up-trans real-or-negative u) in
       let m = h .smallest (timesSign s B) e in
       omega arith
