@@ -3,7 +3,7 @@
 ghost use mathlib.Core.Path.{_≡_};
 ghost use Prim.Native.Nat.{_≤_, _^_};
 ghost use Rattle.matrix.specs.Matrix.{entry};
-ghost use Rattle.matrix.specs.Operator.{operator};
+ghost use Rattle.matrix.specs.Operator.{operator, Orthogonal};
 ghost use Rattle.matrix.specs.Array.{Bounded};
 ghost use Rattle.acceptance.specs.Acceptance.{entriesRefusal};
 ghost use Rattle.acceptance.specs.Cutting.{CutAs, CutOf};
@@ -30,6 +30,26 @@ fn refused(refusal: u8) -> Cut
     }
 }
 
+// The normal form of an orthogonal operator, and no refusal.
+pub fn cut_orthogonal(k: u8, m: [i64; 36]) -> Cut
+    requires { ⌜ (k ≤ 60) × Orthogonal (operator k (entry m)) ⌝ }
+    ensures { λ r. ⌜ CutAs 0 k m r ⌝ }
+{
+    let normal = reduction::normal_form(k, m);
+    let count = normal.count;
+    let loose = normal.loose;
+    let numbers = normal.numbers;
+    let remaining = normal.matrix;
+    let columns = clifford::columns_of(remaining);
+    Cut {
+        refusal: 0,
+        count,
+        loose,
+        numbers,
+        columns,
+    }
+}
+
 // The refusal of an operator for its entries, or its normal form.
 fn cut_operator(k: u8, m: [i64; 36]) -> Cut
     requires { ⌜ (k ≤ 60) × Bounded (2 ^ 30) (entry m) ⌝ }
@@ -41,22 +61,12 @@ fn cut_operator(k: u8, m: [i64; 36]) -> Cut
     if !orthogonality::is_orthogonal(k, m) {
         return refused(4);
     }
-    let normal = reduction::normal_form(k, m);
-    let count = normal.count;
-    let loose = normal.loose;
-    let numbers = normal.numbers;
-    let remaining = normal.matrix;
-    let columns = clifford::columns_of(remaining);
+    let cut = cut_orthogonal(k, m);
+    let columns = cut.columns;
     if !sign::is_even(columns) {
         return refused(5);
     }
-    Cut {
-        refusal: 0,
-        count,
-        loose,
-        numbers,
-        columns,
-    }
+    cut
 }
 
 // The refusal of an operator file, or the normal form of its operator.
