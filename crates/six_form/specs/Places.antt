@@ -4,7 +4,7 @@ use mathlib.Core.List.{List, [], _∷_}
 use mathlib.Core.Path.{_≡_}
 use Prim.Native.Nat.{ℕ, _+_, _*_, _≤_}
 use lib.IntN.{ℤ, pos}
-use lib.ListN.{getD}
+use lib.ListN.{length, getD}
 use Rattle.matrix.specs.Range.{every}
 use Rattle.matrix.specs.Integer.{equals}
 use Rattle.matrix.specs.Matrix.{entry, listed}
@@ -30,4 +30,5 @@ pub record PartsOf (n : List ℤ) (r : Parts) : Type 0 where
 -- the form up to sign, of an exponent of at most 2 k + 2
 pub record FormAs (U : Quotient) (r : Form) : Type 0 where
   pub small : r .exponent ≤ 2 * U .exponent + 2
+  pub long : length (r .matrix) ≡ 36
   pub same : SameUpToSign (operator (r .exponent) (entry (r .matrix))) (formOf U)

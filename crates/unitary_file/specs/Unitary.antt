@@ -59,3 +59,4 @@ pub record ReadAs (b : List ℕ) (r : Entries) : Type 0 where
   pub refusal : r .refusal ≡ unitaryRefusal b
   pub exponent : unitaryRefusal b ≡ 0 → r .exponent ≡ fileExponent b
   pub entries : unitaryRefusal b ≡ 0 → r .entries ≡ unitaryEntries b
+  pub narrow : unitaryRefusal b ≡ 0 → Narrow (r .entries)

@@ -1,6 +1,7 @@
 -- The gate list of a normal form multiplies to it times its sign, has a letter C for each of its generators, and in each stretch the fewest letters Z.
 use mathlib.Core.Path.{_≡_, refl, sym, _∙_}
 use mathlib.Core.Bool.{Bool, true, _&&_}
+use mathlib.Core.Logic.{inl}
 use mathlib.Core.List.{List, [], _∷_, _++_}
 use Prim.Native.Nat.{ℕ, zero, suc, _+_, _*_, _%_, _<_, _≤_}
 use native.Mathlib.Omega.{arith}
@@ -14,11 +15,11 @@ use Rattle.matrix.specs.Array.{everywhere}
 use Rattle.matrix.specs.Laws.Test.{left, right, T-true}
 use Rattle.matrix.specs.Laws.Integer.{equals-eq}
 use Rattle.matrix.specs.Laws.Matrix.{product-id-l, product-id-r, product-cong, same-refl}
-use Rattle.matrix.specs.Laws.Operator.{same-operator-refl, same-operator-sym, same-operator-trans, same-operator-of, times-same, times-assoc, same-proper}
+use Rattle.matrix.specs.Laws.Operator.{same-operator-refl, same-operator-sym, same-operator-trans, same-operator-of, times-same, times-assoc, same-proper, least-same}
 use Rattle.matrix.specs.Laws.Array.{everywhere-sound}
 use Rattle.clifford.specs.Columns.{columnsMatrix, columnBytes, timesSign, arePermutation, isEven}
 use Rattle.clifford.specs.Laws.Columns.{permutation-complete, matrix-permutation, matrix-columns}
-use Rattle.clifford.specs.Laws.Sign.{sign-same, sign-none, times-sign-r, times-signs, sign-least, sign-of-both, sign-follows}
+use Rattle.clifford.specs.Laws.Sign.{sign-same, sign-none, times-sign-r, times-signs, sign-least, sign-of-both, sign-follows, up-trans}
 use Rattle.sign.specs.Laws.Sign.{proper-even}
 use Rattle.residue.specs.Generator.{table, place, generator}
 use Rattle.residue.specs.Laws.Table.{numbered}
@@ -199,6 +200,19 @@ list-of k m o p =
       short = let a = stretches-length identityColumns (taken k m) cs in let b = c .exact in omega arith;
       stretches = stretches-fewest identityColumns (taken k m) cs identity-clifford (c .numbers) clifford-cs;
     }
+
+-- a list for an operator is one for every operator that is the same
+pub same-list-for : {A B : Operator} {t : ℕ} {w : List Gate} {s : ℕ} → SameOperator A B → ListFor A t w s → ListFor B t w s
+same-list-for {s = s} h l = record {
+  multiplies = record { same = same-operator-trans (l .multiplies .same) (sign-same s h) };
+  small = l .small;
+  follows = λ r b m. l .follows r b (record { same = same-operator-trans (m .same) (sign-same r (same-operator-sym h)) });
+  exact = l .exact;
+  least = least-same h (l .least);
+  fewest = λ v u. l .fewest v (up-trans u (inl (same-operator-sym h)));
+  short = l .short;
+  stretches = l .stretches;
+}
 
 -- ---- a list for the operator itself
 

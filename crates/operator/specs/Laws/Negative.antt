@@ -1,20 +1,23 @@
--- Operators that agree up to sign have the same letters; an operator and its negative have the other sign.
+-- Operators that agree up to sign have the same count, L and letters; an operator and its negative have the other sign.
 use mathlib.Core.Path.{_≡_, ap, ap₂, _∙_}
-use mathlib.Core.Logic.{inl, inr}
+use mathlib.Core.Logic.{_⊎_, inl, inr, ⊎-elim}
 use mathlib.Core.List.{List}
 use Prim.Native.Nat.{ℕ, _+_, _%_}
 use native.Mathlib.Omega.{arith}
 use lib.IntN.{ℤ, negsuc}
 use lib.ListN.{length}
 use Rattle.matrix.specs.Matrix.{entry, scaled}
-use Rattle.matrix.specs.Operator.{operator, SameOperator, SameUpToSign, Orthogonal, Proper}
+use Rattle.matrix.specs.Operator.{operator, SameUpToSign, Orthogonal, Proper}
+use Rattle.matrix.specs.Array.{Least, leastForm}
 use Rattle.matrix.specs.Laws.Operator.{same-operator-trans}
 use Rattle.matrix.specs.Laws.Array.{length-listed, same-least-form}
 use Rattle.clifford.specs.Columns.{columnBytes, signed}
-use Rattle.reduction.specs.Reduction.{taken, generators, remainder}
+use Rattle.reduction.specs.Reduction.{count, loose, looseCuts, taken, generators, remainder}
 use Rattle.reduction.specs.Laws.NormalForm.{cutting}
-use Rattle.reduction.specs.Laws.Negative.{negativeOf, negative-same, negative-array-orthogonal, taken-negative}
+use Rattle.reduction.specs.Laws.Negative.{negativeOf, negative-same, negative-array-orthogonal, count-negative, taken-negative}
+use Rattle.reduction.specs.Laws.Loose.{loose-negative}
 use Rattle.sheet_bytes.specs.Laws.Sheet.{columnsLeft, columns-negative}
+use Rattle.letter.specs.declared.Gate.{Gate}
 use Rattle.letter.specs.Composition.{identityColumns}
 use Rattle.gate_list.specs.List.{gateList, signs, listOf, signOfList}
 use Rattle.gate_list.specs.Laws.List.{identity-clifford, left-clifford}
@@ -36,12 +39,21 @@ module _ (k : ℕ) (m : List ℤ) (o : Orthogonal (operator k (entry m))) (p : P
       parities : (x y : ℕ) → (x + y) % 2 ≡ 1 → x % 2 + y % 2 ≡ 1
       parities x y h = omega arith
 
-module _ (k l : ℕ) (m n : List ℤ) (hm : length m ≡ 36) (hn : length n ≡ 36) (o : Orthogonal (operator k (entry m))) (p : Orthogonal (operator l (entry n))) (q : Proper (operator l (entry n))) where
-  same-list : (r : List ℤ) → length r ≡ 36 → Orthogonal (operator l (entry r)) → SameOperator (operator k (entry m)) (operator l (entry r)) → listOf k m ≡ listOf l r
-  same-list r hr s h = ap (λ f. gateList (generators (f .exponent) (f .matrix)) (columnBytes (entry (remainder (f .exponent) (f .matrix))))) (same-least-form k l m r hm hr o s h)
+module _ (k l : ℕ) (m n : List ℤ) (hm : length m ≡ 36) (hn : length n ≡ 36) (o : Orthogonal (operator k (entry m))) (p : Orthogonal (operator l (entry n))) where
+  -- the least form is that of the one, or that of its negative
+  least-up-to-sign : SameUpToSign (operator k (entry m)) (operator l (entry n)) → (leastForm k m ≡ leastForm l n) ⊎ (leastForm k m ≡ leastForm l (negativeOf n))
+  least-up-to-sign (inl h) = inl (same-least-form k l m n hm hn o p h)
+  least-up-to-sign (inr h) =
+      inr (same-least-form k l m (negativeOf n) hm (length-listed (scaled (negsuc 0) (entry n))) o (negative-array-orthogonal l n p) (same-operator-trans h (negative-same l n)))
 
-  pub same-letters : SameUpToSign (operator k (entry m)) (operator l (entry n)) → listOf k m ≡ listOf l n
-  same-letters (inl h) = same-list n hn p h
-  same-letters (inr h) =
-      same-list (negativeOf n) (length-listed (scaled (negsuc 0) (entry n))) (negative-array-orthogonal l n p) (same-operator-trans h (negative-same l n))
-      ∙ list-negative l n p q
+  pub same-count : SameUpToSign (operator k (entry m)) (operator l (entry n)) → count k m ≡ count l n
+  same-count h = ⊎-elim (λ e. ap (λ f. f .exponent) e) (λ e. ap (λ f. f .exponent) e ∙ count-negative l n p) (least-up-to-sign h)
+
+  pub same-loose : SameUpToSign (operator k (entry m)) (operator l (entry n)) → loose k m ≡ loose l n
+  same-loose h = ⊎-elim (λ e. ap (λ f. looseCuts (f .exponent) (f .matrix)) e) (λ e. ap (λ f. looseCuts (f .exponent) (f .matrix)) e ∙ loose-negative l n p) (least-up-to-sign h)
+
+  pub same-letters : Proper (operator l (entry n)) → SameUpToSign (operator k (entry m)) (operator l (entry n)) → listOf k m ≡ listOf l n
+  same-letters q h = ⊎-elim (λ e. ap listed e) (λ e. ap listed e ∙ list-negative l n p q) (least-up-to-sign h)
+    where
+      listed : Least → List Gate
+      listed f = gateList (generators (f .exponent) (f .matrix)) (columnBytes (entry (remainder (f .exponent) (f .matrix))))

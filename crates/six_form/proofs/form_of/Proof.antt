@@ -9,7 +9,7 @@ use borrow.Author.Needs.{needs}
 use denote.Ref.{now}
 use Rattle.matrix.specs.Matrix.{entry, listed}
 use Rattle.matrix.specs.Array.{Bounded}
-use Rattle.matrix.specs.Laws.Array.{bounded-listed}
+use Rattle.matrix.specs.Laws.Array.{length-listed, bounded-listed}
 use Rattle.unitary.specs.Unitary.{Unitary, quotient, matrixOf}
 use Rattle.unitary.specs.Form.{sixForm}
 use Rattle.unitary_file.specs.Unitary.{Narrow}
@@ -21,13 +21,13 @@ use Rattle.six_form.proofs.form_of.Tie as tie
 
 module _ (k : ℕ) (n : List ℤ) (o : Unitary (quotient k (matrixOf n))) (r : Parts) (p : PartsOf n r) where
   imaginary : isZero (r .re) ≡ true → FormAs (quotient k (matrixOf n)) (record { exponent = 2 * k + 2; matrix = r .im })
-  imaginary e = record { small = omega arith; same = rw (p .im) (imaginary-form (quotient k (matrixOf n)) o (ap isZero (sym (p .re)) ∙ e)) }
+  imaginary e = record { small = omega arith; long = rw (p .im) (length-listed _); same = rw (p .im) (imaginary-form (quotient k (matrixOf n)) o (ap isZero (sym (p .re)) ∙ e)) }
 
   whole : isZero (r .im) ≡ true → FormAs (quotient k (matrixOf n)) (record { exponent = 2 * k + 2; matrix = r .re })
-  whole e = record { small = omega arith; same = rw (p .re) (real-form (quotient k (matrixOf n)) o (ap isZero (sym (p .im)) ∙ e)) }
+  whole e = record { small = omega arith; long = rw (p .re) (length-listed _); same = rw (p .re) (real-form (quotient k (matrixOf n)) o (ap isZero (sym (p .im)) ∙ e)) }
 
   diagonal : isZero (r .re) ≡ false → isZero (r .im) ≡ false → FormAs (quotient k (matrixOf n)) (record { exponent = 2 * k + 1; matrix = r .re })
-  diagonal e f = record { small = omega arith; same = rw (p .re) (diagonal-form (quotient k (matrixOf n)) o (ap isZero (sym (p .re)) ∙ e) (ap isZero (sym (p .im)) ∙ f)) }
+  diagonal e f = record { small = omega arith; long = rw (p .re) (length-listed _); same = rw (p .re) (diagonal-form (quotient k (matrixOf n)) o (ap isZero (sym (p .re)) ∙ e) (ap isZero (sym (p .im)) ∙ f)) }
 
 parts-of-requires : tie.Need-parts-of-requires
 parts-of-requires c κs = search needs

@@ -65,7 +65,12 @@ returns-5 c =
     let k = getD (now (d .before .before .before .before .before .args .bytes)) 0 0 in
     let small = sym (t .is-small .ensures ∙ ap (λ n. isSmall k (matrixOf n)) (d .decode .ensures)) ∙ not-false _ (c .before .before .before .if3 .left) in
     let unitary = sym (c .before .is-unitary .ensures ∙ ap (λ n. isUnitary k (matrixOf n)) (d .decode .ensures)) ∙ not-false _ (c .if4 .left) in
-    record { refusal = sym (taken-in _ (d .before .before .before .if1 .left) (d .before .if2 .left) small unitary); exponent = λ z. refl; entries = λ z. d .decode .ensures }
+    record {
+      refusal = sym (taken-in _ (d .before .before .before .if1 .left) (d .before .if2 .left) small unitary);
+      exponent = λ z. refl;
+      entries = λ z. d .decode .ensures;
+      narrow = λ z. rw (d .decode .ensures) (entries-narrow _ (λ i. d .before .before .before .before .shared-slice-known .given i .fits));
+    }
 
 pub read-unitary-spec : {M : Type 1} → statement M
 read-unitary-spec =

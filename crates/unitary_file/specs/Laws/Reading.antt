@@ -46,7 +46,7 @@ module _ (b : List ℕ) (l : length b ≡ unitaryLength) (h : fileExponent b ≤
 
 -- a refusal, with nothing beside it
 pub refused-as : (b : List ℕ) (r : Entries) (n : ℕ) → unitaryRefusal b ≡ n → 0 < n → r .refusal ≡ n → ReadAs b r
-refused-as b r n e l f = record { refusal = f ∙ sym e; exponent = λ z. absurd (omega arith); entries = λ z. absurd (omega arith) }
+refused-as b r n e l f = record { refusal = f ∙ sym e; exponent = λ z. absurd (omega arith); entries = λ z. absurd (omega arith); narrow = λ z. absurd (omega arith) }
 
 -- 16 bits each
 narrow : (f : ℕ → ℤ) → ((n : ℕ) → natAbs (f n) ≤ 2 ^ 15) → (a k : ℕ) → Narrow (tabulate f a k)
