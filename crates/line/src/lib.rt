@@ -5,7 +5,7 @@
 ghost use Prim.Native.Nat.{_+_, _≤_};
 ghost use lib.ListN.{length};
 ghost use Rattle.file.specs.File.{Appended};
-ghost use Rattle.text.specs.Text.{countLine, sheetLine, looseLine, signLine, refusedLine, orderLine, gatesLine};
+ghost use Rattle.text.specs.Text.{countLine, sheetLine, looseLine, signLine, omegaLine, refusedLine, orderLine, gatesLine, listLines};
 
 const COUNT: [u8; 5] = *b"count";
 
@@ -14,6 +14,8 @@ const SHEET: [u8; 5] = *b"sheet";
 const LOOSE: [u8; 5] = *b"loose";
 
 const SIGN: [u8; 4] = *b"sign";
+
+const OMEGA: [u8; 5] = *b"omega";
 
 const REFUSED: [u8; 7] = *b"refused";
 
@@ -53,6 +55,14 @@ pub fn write_sign(s: u8, out: &mut [u8], at: usize) -> usize
     text::write_line(&SIGN, &[s], out, at)
 }
 
+// The line of a power of ω.
+pub fn write_omega(p: u8, out: &mut [u8], at: usize) -> usize
+    requires { ⌜ at + length (omegaLine p) ≤ length (now out) ⌝ }
+    ensures { λ r. ⌜ Appended (omegaLine p) at (now (out .entry)) (now (out .exit)) r ⌝ }
+{
+    text::write_line(&OMEGA, &[p], out, at)
+}
+
 // The line of a refusal.
 pub fn write_refused(n: u8, out: &mut [u8], at: usize) -> usize
     requires { ⌜ at + length (refusedLine n) ≤ length (now out) ⌝ }
@@ -77,4 +87,15 @@ pub fn write_gates(letters: &[u8], out: &mut [u8], at: usize) -> usize
     let after = text::write_bytes(&GATES, out, at);
     let end = text::write_bytes(letters, out, after);
     text::write_byte(b'\n', out, end)
+}
+
+// The lines of a gate list, at the front of `out`: its count, its letters and L.
+// Wrong, and refused: the letters over the count; L over the letters.
+pub fn write_list(count: u8, letters: &[u8], loose: u8, out: &mut [u8]) -> usize
+    requires { ⌜ length (countLine count) + length (gatesLine (now letters)) + length (looseLine loose) ≤ length (now out) ⌝ }
+    ensures { λ r. ⌜ Appended (listLines count (now (letters .entry)) loose) 0 (now (out .entry)) (now (out .exit)) r ⌝ }
+{
+    let second = write_count(count, out, 0);
+    let third = write_gates(letters, out, second);
+    write_loose(loose, out, third)
 }

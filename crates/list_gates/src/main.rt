@@ -18,10 +18,8 @@ fn answer(file: &[u8], out: &mut [u8; 8192]) -> usize
             loose,
             sign,
         } => {
-            let second = line::write_count(count, out, 0);
-            let third = line::write_gates(&gates[..letters], out, second);
-            let fourth = line::write_loose(loose, out, third);
-            line::write_sign(sign, out, fourth)
+            let end = line::write_list(count, &gates[..letters], loose, out);
+            line::write_sign(sign, out, end)
         }
         Listed::Refused(refusal) => line::write_refused(refusal, out, 0),
     }

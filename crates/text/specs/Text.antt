@@ -55,6 +55,13 @@ signWord = 115 ∷ 105 ∷ 103 ∷ 110 ∷ []
 abbrev pub signLine : ℕ → List ℕ
 signLine s = line signWord (s ∷ [])
 
+-- "omega" and the power of ω (document 02, P5)
+abbrev pub omegaWord : List ℕ
+omegaWord = 111 ∷ 109 ∷ 101 ∷ 103 ∷ 97 ∷ []
+
+abbrev pub omegaLine : ℕ → List ℕ
+omegaLine p = line omegaWord (p ∷ [])
+
 -- "the one line `refused N`"
 abbrev pub refusedWord : List ℕ
 refusedWord = 114 ∷ 101 ∷ 102 ∷ 117 ∷ 115 ∷ 101 ∷ 100 ∷ []
@@ -75,3 +82,7 @@ gatesWord = 103 ∷ 97 ∷ 116 ∷ 101 ∷ 115 ∷ 32 ∷ []
 
 abbrev pub gatesLine : List ℕ → List ℕ
 gatesLine letters = gatesWord ++ letters ++ (10 ∷ [])
+
+-- the first three lines for a gate list of count t: its letters and L
+abbrev pub listLines : ℕ → List ℕ → ℕ → List ℕ
+listLines t letters l = countLine t ++ gatesLine letters ++ looseLine l

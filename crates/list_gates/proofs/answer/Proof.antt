@@ -6,9 +6,8 @@ use native.Mathlib.Omega.{arith}
 use denote.Ref.{now}
 use lib.ListN.{length, take, length-append}
 use lib.Seq.{length-take-le}
-use Rattle.file.specs.File.{Appended}
 use Rattle.file.specs.Laws.Written.{appended-length, appended-append}
-use Rattle.text.specs.Text.{refusedWord, countLine, gatesLine, looseLine, signLine, refusedLine}
+use Rattle.text.specs.Text.{refusedWord, countLine, gatesLine, looseLine, listLines, signLine, refusedLine}
 use Rattle.text.specs.Laws.Text.{line-length, within}
 use Rattle.list_gates.specs.Laws.Output.{Lettered, lettered, refused}
 use borrow.Author.Needs.{needs}
@@ -24,69 +23,42 @@ operator-to-gates-requires c κs = search needs
 enum-known-answer : tie.Need-enum-known-answer
 enum-known-answer c = search needs
 
-write-count-requires : tie.Need-write-count-requires
-write-count-requires c κs = let k = lettered _ _ _ _ (omega arith) (c .before .before .before .before .before .operator-to-gates .ensures) _ _ _ _ (c .before .before .answer .given .1) in let r = k .room in omega arith
-
 array-share-prefix-gates : tie.Need-array-share-prefix-gates
-array-share-prefix-gates c = lettered _ _ _ _ (omega arith) (c .before .before .before .before .before .before .operator-to-gates .ensures) _ _ _ _ (c .before .before .before .answer .given .1) .long
+array-share-prefix-gates c = lettered _ _ _ _ (omega arith) (c .before .before .before .before .operator-to-gates .ensures) _ _ _ _ (c .before .answer .given .1) .long
 
-slice-aggregate-write-gates : tie.Need-slice-aggregate-write-gates
-slice-aggregate-write-gates c =
-    let k = lettered _ _ _ _ (omega arith) (c .before .before .before .before .before .before .before .operator-to-gates .ensures) _ _ _ _ (c .before .before .before .before .answer .given .1) in
+slice-aggregate-write-list : tie.Need-slice-aggregate-write-list
+slice-aggregate-write-list c =
+    let k = lettered _ _ _ _ (omega arith) (c .before .before .before .before .before .operator-to-gates .ensures) _ _ _ _ (c .before .before .answer .given .1) in
     sym (length-take-le _ _ (k .long))
 
-write-gates-requires : tie.Need-write-gates-requires
-write-gates-requires c κs =
-    let k = lettered _ _ _ _ (omega arith) (c .before .before .before .before .before .before .before .before .operator-to-gates .ensures) _ _ _ _ (c .before .before .before .before .before .answer .given .1) in
-    let r = k .room in
-    let a = c .before .before .write-count .ensures in
-    let e = a .next in
-    let l = appended-length a (omega arith) in
-    omega arith
+write-list-requires : tie.Need-write-list-requires
+write-list-requires c κs = let k = lettered _ _ _ _ (omega arith) (c .before .before .before .before .before .before .operator-to-gates .ensures) _ _ _ _ (c .before .before .before .answer .given .1) in let r = k .room in omega arith
 
-write-loose-requires : tie.Need-write-loose-requires
-write-loose-requires c κs =
-    let k = lettered _ _ _ _ (omega arith) (c .before .before .before .before .before .before .before .before .before .before .operator-to-gates .ensures) _ _ _ _ (c .before .before .before .before .before .before .before .answer .given .1) in
-    let r = k .room in
-    let t = c .before .before .before .before .before .before .before .answer .given .0 .0 in
-    let letters = take (c .before .before .before .before .before .before .before .answer .given .0 .1 .0) (c .before .before .before .before .before .before .before .before .before .before .operator-to-gates .last .1 .0) in
-    let m = length-append (countLine t) (gatesLine letters) in
-    let a = appended-append (c .before .before .before .before .write-count .ensures) (omega arith) (c .before .write-gates .ensures) in
-    let e = a .next in
-    let l = appended-length a (omega arith) in
-    omega arith
-
--- three lines are written
-module _ (c : tie.After-write-loose) where
+-- the first three lines are written
+module _ (c : tie.After-write-list) where
   abbrev t : ℕ
-  t = c .before .before .before .before .before .before .before .before .answer .given .0 .0
+  t = c .before .before .before .before .answer .given .0 .0
 
   abbrev letters : List ℕ
-  letters = take (c .before .before .before .before .before .before .before .before .answer .given .0 .1 .0) (c .before .before .before .before .before .before .before .before .before .before .before .operator-to-gates .last .1 .0)
+  letters = take (c .before .before .before .before .answer .given .0 .1 .0) (c .before .before .before .before .before .before .before .operator-to-gates .last .1 .0)
 
   abbrev l : ℕ
-  l = c .before .before .before .before .before .before .before .before .answer .given .0 .1 .1 .0
+  l = c .before .before .before .before .answer .given .0 .1 .1 .0
 
   abbrev s : ℕ
-  s = c .before .before .before .before .before .before .before .before .answer .given .0 .1 .1 .1 .0
+  s = c .before .before .before .before .answer .given .0 .1 .1 .1 .0
 
-  told : Lettered (now (c .before .before .before .before .before .before .before .before .before .before .before .before .before .before .args .file)) (c .before .before .before .before .before .before .before .before .before .before .before .operator-to-gates .last .1 .0) t (c .before .before .before .before .before .before .before .before .answer .given .0 .1 .0) l s
-  told = lettered _ _ _ _ (omega arith) (c .before .before .before .before .before .before .before .before .before .before .before .operator-to-gates .ensures) _ _ _ _ (c .before .before .before .before .before .before .before .before .answer .given .1)
+  told : Lettered (now (c .before .before .before .before .before .before .before .before .before .before .args .file)) (c .before .before .before .before .before .before .before .operator-to-gates .last .1 .0) t (c .before .before .before .before .answer .given .0 .1 .0) l s
+  told = lettered _ _ _ _ (omega arith) (c .before .before .before .before .before .before .before .operator-to-gates .ensures) _ _ _ _ (c .before .before .before .before .answer .given .1)
 
-  size : length (countLine t ++ gatesLine letters ++ looseLine l) ≡ length (countLine t) + length (gatesLine letters) + length (looseLine l)
+  size : length (listLines t letters l) ≡ length (countLine t) + length (gatesLine letters) + length (looseLine l)
   size = let m = length-append (countLine t) (gatesLine letters) in let n = length-append (countLine t ++ gatesLine letters) (looseLine l) in omega arith
-
-  three : Appended (countLine t ++ gatesLine letters ++ looseLine l) 0 (now (c .before .before .before .before .before .before .before .before .before .before .before .before .before .before .args .out)) (c .write-loose .last .1 .0) (c .write-loose .result)
-  three =
-      let r = told .room in
-      let m = length-append (countLine t) (gatesLine letters) in
-      appended-append (appended-append (c .before .before .before .before .before .write-count .ensures) (omega arith) (c .before .before .write-gates .ensures)) (omega arith) (c .write-loose .ensures)
 
 write-sign-requires : tie.Need-write-sign-requires
 write-sign-requires c κs =
     let r = told (c .before) .room in
     let z = size (c .before) in
-    let a = three (c .before) in
+    let a = c .before .write-list .ensures in
     let e = a .next in
     let n = appended-length a (omega arith) in
     omega arith
@@ -102,9 +74,9 @@ returns c =
     let w = c .before .before in
     let r = told w .room in
     let z = size w in
-    let n = length-append (countLine (t w) ++ gatesLine (letters w) ++ looseLine (l w)) (signLine (s w)) in
-    let a = appended-append (three w) (omega arith) (c .write-sign .ensures) in
-    (record { text = countLine (t w) ++ gatesLine (letters w) ++ looseLine (l w) ++ signLine (s w); says = told w .text; stands = a }, within a (omega arith))
+    let n = length-append (listLines (t w) (letters w) (l w)) (signLine (s w)) in
+    let a = appended-append (w .write-list .ensures) (omega arith) (c .write-sign .ensures) in
+    (record { text = listLines (t w) (letters w) (l w) ++ signLine (s w); says = told w .text; stands = a }, within a (omega arith))
 
 returns-2 : tie.Need-returns-2
 returns-2 c =
@@ -120,11 +92,9 @@ answer-spec =
     slice-aggregate-operator-to-gates
     operator-to-gates-requires
     enum-known-answer
-    write-count-requires
     array-share-prefix-gates
-    slice-aggregate-write-gates
-    write-gates-requires
-    write-loose-requires
+    slice-aggregate-write-list
+    write-list-requires
     write-sign-requires
     enum-known-answer-2
     write-refused-requires

@@ -15,14 +15,14 @@ use Rattle.acceptance.specs.Acceptance.{fileRefusal}
 use Rattle.acceptance.specs.Cutting.{fileCount, fileLoose}
 use Rattle.operator.specs.Promise.{Handed, GatesPromise}
 use Rattle.operator.specs.Laws.Promise.{count-small}
-use Rattle.text.specs.Text.{countWord, looseWord, signWord, countLine, gatesLine, looseLine, signLine, refusedLine}
+use Rattle.text.specs.Text.{countWord, looseWord, signWord, countLine, gatesLine, looseLine, listLines, signLine, refusedLine}
 use Rattle.text.specs.Laws.Text.{line-length}
 use Rattle.list_gates.specs.Output.{ListText}
 
 -- after a count, a number of letters, L and a sign
 pub record Lettered (b new : List ℕ) (t n l s : ℕ) : Type 0 where
   pub long : n ≤ length new
-  pub text : ListText b (countLine t ++ gatesLine (take n new) ++ looseLine l ++ signLine s)
+  pub text : ListText b (listLines t (take n new) l ++ signLine s)
   -- room for the four lines
   pub room : length (countLine t) + length (gatesLine (take n new)) + length (looseLine l) + length (signLine s) ≤ 8192
 

@@ -2,7 +2,7 @@
 use mathlib.Core.Path.{_≡_, refl, sym, ap, _∙_}
 use mathlib.Core.Logic.{inl}
 use mathlib.Core.List.{List}
-use Prim.Native.Nat.{ℕ, _<_, _≤_}
+use Prim.Native.Nat.{ℕ, _+_, _*_, _≤_}
 use native.Mathlib.Omega.{arith}
 use lib.IntN.{ℤ}
 use Rattle.matrix.specs.Matrix.{entry, listed}
@@ -50,3 +50,6 @@ module _ (U : Quotient) (o : Unitary U) where
         form-list = refl;
         list = (sign, l);
       }
+
+  pub form-count-small : formCount U ≤ 2 * U .exponent + 2
+  form-count-small = form U o .exponent (formCount U) (form-list-for .least)

@@ -37,7 +37,7 @@ use Rattle.six_form.specs.Places.{FormAs}
 use Rattle.unitary_gates.specs.declared.Synthesis.{Synthesis}
 use Rattle.unitary_gates.specs.declared.Synthesis.the-variants.{Letters, Refused}
 use Rattle.unitary_gates.specs.Promise.{formCount, formLoose, formList, UnitaryList, UnitaryPromise}
-use Rattle.unitary_gates.specs.Laws.List.{array-orthogonal, array-proper, unitary-list}
+use Rattle.unitary_gates.specs.Laws.List.{array-orthogonal, array-proper, unitary-list, form-count-small}
 use Rattle.unitary_gates.specs.Laws.Exactly.{exactly-refused, exactly-accepted}
 
 -- ---- the form that was computed, and its normal form
@@ -159,3 +159,7 @@ module _ (b old : List ℕ) (r : Entries) (p : ReadAs b r) where
             );
             exactly = exactly-refused b 0 (sym none);
           }
+
+-- room for every list
+pub count-small : (b : List ℕ) → unitaryRefusal b ≡ 0 → formCount (unitaryOf b) ≤ 2 * largestUnitary + 2
+count-small b z = let a = accepted b z in let h = form-count-small (unitaryOf b) (a .unitary) in let r = a .range in omega arith
