@@ -8,6 +8,7 @@ use Rattle.file.specs.declared.Answer.the-variants.{Count, Refused}
 use Rattle.file.specs.declared.Wrote as wrote
 use Rattle.operator.specs.declared.Cuts as cuts
 use Rattle.operator.specs.declared.Listed as listed
+use Rattle.unitary_gates.specs.declared.Synthesis as synthesis
 use Rattle.bundle.specs.declared.Part as part
 
 -- ---- the layout
@@ -64,6 +65,15 @@ listedParts (listed.the-variants.Refused n) = refused n
 abbrev pub lettersOf : listed.Listed → ℕ
 lettersOf (listed.the-variants.Letters t letters loose sign) = letters
 lettersOf (listed.the-variants.Refused n) = 0
+
+-- and so for a unitary, with the power of ω in place of the sign
+abbrev pub synthesisParts : synthesis.Synthesis → Parts
+synthesisParts (synthesis.the-variants.Letters t letters loose power) = given t letters loose power
+synthesisParts (synthesis.the-variants.Refused n) = refused n
+
+abbrev pub synthesisLetters : synthesis.Synthesis → ℕ
+synthesisLetters (synthesis.the-variants.Letters t letters loose power) = letters
+synthesisLetters (synthesis.the-variants.Refused n) = 0
 
 -- how many bytes were written is the value
 abbrev pub wroteParts : wrote.Wrote → Parts

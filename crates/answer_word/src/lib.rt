@@ -5,11 +5,12 @@ use file::Answer;
 use file::Wrote;
 use operator::Cuts;
 use operator::Listed;
+use unitary_gates::Synthesis;
 ghost use mathlib.Core.Logic.{_≢_};
 ghost use mathlib.Core.Path.{_≡_};
 ghost use Prim.Native.Nat.{_^_, _<_};
 ghost use Rattle.bundle.specs.Bundle.{Placed};
-ghost use Rattle.answer_word.specs.Encoding.{packed, answerParts, cutsParts, listedParts, lettersOf, wroteParts, bytesOf, partParts, WordOf};
+ghost use Rattle.answer_word.specs.Encoding.{packed, answerParts, cutsParts, listedParts, lettersOf, synthesisParts, synthesisLetters, wroteParts, bytesOf, partParts, WordOf};
 
 // The lowest bit of each part of a word; that of the refusal is 1.
 const VALUE: u64 = 1 << 8;
@@ -71,6 +72,23 @@ pub fn encode_listed(answer: Listed) -> u64
             sign,
         } => pack(0, count as u32, letters as u16, loose, sign),
         Listed::Refused(refusal) => pack(refusal, 0, 0, 0, 0),
+    }
+}
+
+// The word of the answer of the call for a unitary.
+// Wrong, and refused: the power of ω left out; L and the power in each other's bits.
+pub fn encode_synthesis(answer: Synthesis) -> u64
+    requires { ⌜ (answer ≢ Synthesis.Refused 0) × (synthesisLetters answer < 2 ^ 16) ⌝ }
+    ensures { λ r. ⌜ WordOf (synthesisParts answer) r ⌝ }
+{
+    match answer {
+        Synthesis::Letters {
+            count,
+            letters,
+            loose,
+            power,
+        } => pack(0, count as u32, letters as u16, loose, power),
+        Synthesis::Refused(refusal) => pack(refusal, 0, 0, 0, 0),
     }
 }
 

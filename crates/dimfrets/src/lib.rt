@@ -4,12 +4,13 @@
 
 ghost use Rattle.gate.specs.Promise.{ProductPromise};
 ghost use Rattle.operator.specs.Promise.{SheetPromise, GatesPromise};
+ghost use Rattle.unitary_gates.specs.Promise.{UnitaryPromise};
 ghost use Rattle.order.specs.Order.{orderAnswer};
 ghost use Rattle.sheet.specs.Promise.{OperatorPromise};
 ghost use Rattle.bundle.specs.Bundle.{partOf};
 ghost use Rattle.bundle_write.specs.Writing.{BundlePromise};
 ghost use Rattle.qasm.specs.Promise.{TextPromise, LettersPromise};
-ghost use Rattle.answer_word.specs.Encoding.{answerParts, cutsParts, listedParts, wroteParts, partParts, WordOf, Encodes};
+ghost use Rattle.answer_word.specs.Encoding.{answerParts, cutsParts, listedParts, synthesisParts, wroteParts, partParts, WordOf, Encodes};
 
 // An operator file into a sheet.
 #[no_mangle]
@@ -27,6 +28,15 @@ pub extern "C" fn dimfrets_operator_to_gates(input: &[u8], output: &mut [u8]) ->
 {
     let answer = operator::operator_to_gates(input, output);
     answer_word::encode_listed(answer)
+}
+
+// A unitary into a gate list.
+#[no_mangle]
+pub extern "C" fn dimfrets_unitary_to_gates(input: &[u8], output: &mut [u8]) -> u64
+    ensures { λ r. ⌜ Encodes synthesisParts (UnitaryPromise (now (input .entry)) (now (output .entry)) (now (output .exit))) r ⌝ }
+{
+    let answer = unitary_gates::unitary_to_gates(input, output);
+    answer_word::encode_synthesis(answer)
 }
 
 // A gate list into an operator file.

@@ -13,6 +13,7 @@ ghost use Rattle.six_form.specs.Places.{placeOf, isZero, PartsOf, FormAs
 
 // The row and the column of each place above the diagonal.
 const ROWS: [usize; 6] = [0, 0, 0, 1, 1, 2];
+
 const COLUMNS: [usize; 6] = [1, 2, 3, 2, 3, 3];
 
 fn row_at(p: usize) -> usize
@@ -55,9 +56,13 @@ fn minor(n: &[i64; 32], p: usize, q: usize) -> Gaussian
 
 // The basis: the lower place of each matrix, and its entries there and at the complementary place.
 const PLACES: [usize; 6] = [0, 0, 2, 1, 1, 2];
+
 const LOWER_RE: [i64; 6] = [0, 1, 0, -1, 0, 1];
+
 const LOWER_IM: [i64; 6] = [1, 0, -1, 0, 1, 0];
+
 const UPPER_RE: [i64; 6] = [0, 1, 0, 1, 0, 1];
+
 const UPPER_IM: [i64; 6] = [-1, 0, 1, 0, 1, 0];
 
 fn place_of(c: usize) -> usize

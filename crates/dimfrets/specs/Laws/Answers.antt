@@ -22,6 +22,10 @@ use Rattle.acceptance.specs.Acceptance.{fileRefusal}
 use Rattle.acceptance.specs.Cutting.{fileCount, fileLoose}
 use Rattle.operator.specs.Promise.{fileSheet, sheetAnswer, GatesPromise}
 use Rattle.operator.specs.Laws.Promise.{count-small}
+use Rattle.unitary_file.specs.Unitary.{unitaryOf, unitaryRefusal}
+use Rattle.unitary_gates.specs.declared.Synthesis as synthesis
+use Rattle.unitary_gates.specs.Promise.{formCount, UnitaryPromise}
+use Rattle.unitary_gates.specs.Laws.Promise as unitary
 use Rattle.sheet_bytes.specs.Sheet.{sheetRefusal, sheetLeast}
 use Rattle.sheet.specs.Promise as sheet
 use Rattle.order.specs.Order.{largestSpoilage, figure, orderAnswer}
@@ -34,7 +38,7 @@ use Rattle.qasm.specs.Text.{textOf}
 use Rattle.qasm.specs.Reading.{readLetters, readQasm}
 use Rattle.qasm.specs.Promise.{writtenAnswer}
 use Rattle.qasm.specs.Laws.Refusals.{writing-refused, text-small, reading-refused, letters-small}
-use Rattle.answer_word.specs.Encoding.{lettersOf, bytesOf}
+use Rattle.answer_word.specs.Encoding.{lettersOf, synthesisLetters, bytesOf}
 
 -- an answer whose refusals are apart and that can also be none
 module _ {A : Type 0} (refusal : ℕ → A) (apart : (n : ℕ) → n ≢ 0 → refusal n ≢ refusal 0) (done : A) (none : done ≢ refusal 0) where
@@ -114,6 +118,29 @@ gates-fit b old new a p =
         let e = ap lettersOf (h .answer) in
         let n = h .list .short in
         let t = count-small b z in
+        (λ r. let x : _≡_ {A = ℕ} 0 1 = cc in omega arith, omega arith)
+
+-- ---- gate lists of unitaries
+
+abbrev FitU : synthesis.Synthesis → Type 0
+FitU a = (a ≢ synthesis.the-variants.Refused 0) × (synthesisLetters a < 2 ^ 16)
+
+pub unitary-fits : (b old new : List ℕ) (a : synthesis.Synthesis) → UnitaryPromise b old new a → (a ≢ synthesis.the-variants.Refused 0) × (synthesisLetters a < 2 ^ 16)
+unitary-fits b old new a p =
+    elim (ℕ-discrete (unitaryRefusal b) 0) [
+      | no n ↦ none n (p .refused n .0)
+      | yes z ↦ elim (decLt (length old) (256 * (formCount (unitaryOf b) + 1))) [ yes l ↦ none (λ z. omega arith) (p .no-room z l .0) | no l ↦ some z (omega arith) ]
+    ]
+  where
+    none : {n : ℕ} → n ≢ 0 → a ≡ synthesis.the-variants.Refused n → FitU a
+    none h e = (λ z. h (cc), rw (ap synthesisLetters e) (omega arith))
+
+    some : unitaryRefusal b ≡ 0 → 256 * (formCount (unitaryOf b) + 1) ≤ length old → FitU a
+    some z l =
+        let (w, s, h) = p .handed z l in
+        let e = ap synthesisLetters (h .answer) in
+        let n = h .list .list .1 .short in
+        let t = unitary.count-small b z in
         (λ r. let x : _≡_ {A = ℕ} 0 1 = cc in omega arith, omega arith)
 
 -- ---- bundles
