@@ -1,6 +1,6 @@
 /*
- * The CS cutter: operators, sheets and gate lists, bundles of sheets, gate lists as
- * OpenQASM 2.0 text, and the CS states to order.
+ * The CS cutter: operators, sheets and gate lists, four-by-four unitaries, bundles of
+ * sheets, gate lists as OpenQASM 2.0 text, and the CS states to order.
  * Formats, numbers and the order of refusals are those of documents 01 and 02.
  *
  * Every call answers one 64-bit word:
@@ -11,12 +11,14 @@
  *   8 to 31   the value: the count, the figure of states to order, the number of
  *             bytes written (a bundle, a text, or the letters of a text), or the
  *             place of a part's first byte
- *   32 to 47  the length: the letters that an operator was cut into, or the length
- *             of a part; 0 unless an operator was cut into gates or a part found
- *   48 to 55  L: the cuts whose rows grouped as 2 and 4; 0 unless an operator was
- *             cut
- *   56 to 63  the sign of a gate list: 0 if it multiplies to the operator, 1 if to its
- *             negative; 0 unless an operator was cut into gates
+ *   32 to 47  the length: the letters that an operator or a unitary was cut into, or
+ *             the length of a part; 0 unless one of these was cut into gates or a
+ *             part found
+ *   48 to 55  L: the cuts whose rows grouped as 2 and 4; 0 unless an operator or a
+ *             unitary was cut
+ *   56 to 63  the sign of an operator's gate list: 0 if it multiplies to the operator,
+ *             1 if to its negative; or the power of omega, 0 to 7, of a unitary's
+ *             gate list; 0 unless one of these was cut into gates
  *
  * The functions at the end of this file take a word apart.
  *
@@ -39,17 +41,20 @@ extern "C" {
 /* Sizes, in bytes. */
 enum dimfrets_size {
     DIMFRETS_OPERATOR_BYTES = 73,   /* an operator file */
+    DIMFRETS_UNITARY_BYTES = 65,    /* a unitary */
     DIMFRETS_MIN_SHEET = 8,         /* the sheet of a Clifford; each generator adds one */
     DIMFRETS_MAX_SHEET = 36,        /* the sheet of an operator of count 28 */
     DIMFRETS_MAX_LETTERS = 8192,    /* the longest gate list that is read, also from a text */
-    DIMFRETS_GATES_BUFFER = 7424,   /* holds the gate list of any operator: 256 * (28 + 1) */
+    DIMFRETS_GATES_BUFFER = 7424,   /* holds the gate list of any operator or unitary:
+                                       256 * (28 + 1) */
     DIMFRETS_BUNDLE_BUFFER = 19458, /* holds any bundle written: 512 * (36 + 2) + 2 */
     DIMFRETS_QASM_BUFFER = 172079   /* holds any text written: 47 + 21 * 8192 */
 };
 
-/* Limits of counts, orders and bundles. */
+/* Limits of counts, unitaries, orders and bundles. */
 enum dimfrets_limit {
-    DIMFRETS_MAX_COUNT = 28,        /* the largest exponent k, and count t */
+    DIMFRETS_MAX_COUNT = 28,        /* the largest exponent k of an operator, and count t */
+    DIMFRETS_MAX_UNITARY_EXPONENT = 13, /* the largest exponent k of a unitary */
     DIMFRETS_MAX_SPOILAGE = 1000,   /* the largest spoilage, in thousandths */
     DIMFRETS_MAX_SHEETS = 512       /* the most sheets of a bundle */
 };
@@ -64,8 +69,9 @@ enum dimfrets_refusal {
     DIMFRETS_NOT_PROPER = 5,          /* orthogonal, not proper */
     /* The lender of an output buffer. */
     DIMFRETS_BUFFER_TOO_SHORT = 6,    /* shorter than 256 * (t + 1) for the gate list of an
-                                         operator, than the sheet, than 73 bytes for an operator,
-                                         than the bundle, than the text, or than its letters */
+                                         operator or a unitary, than the sheet, than 73 bytes for
+                                         an operator, than the bundle, than the text, or than its
+                                         letters */
     /* The writer of a gate list. */
     DIMFRETS_TOO_MANY_LETTERS = 7,    /* more than 8,192 letters, or statements of a text */
     DIMFRETS_UNKNOWN_LETTER = 8,      /* a byte that is no letter of the table */
@@ -80,6 +86,10 @@ enum dimfrets_refusal {
     DIMFRETS_OTHER_SHEET = 13,        /* cutting its operator gives another sheet */
     /* Whoever orders states. */
     DIMFRETS_ORDER_OUT_OF_RANGE = 14, /* t above 28 or p above 1000 */
+    /* The maker of a unitary. */
+    DIMFRETS_UNITARY_SHAPE = 17,      /* length not 65, or k above 13 */
+    DIMFRETS_UNITARY_ENTRY = 18,      /* an entry whose squared size exceeds 2 to the power k */
+    DIMFRETS_NOT_UNITARY = 19,        /* not unitary */
     /* The maker of a bundle. */
     DIMFRETS_BUNDLE_TRAILER = 20,     /* no trailer of a fitting length, or more than 512 sheets */
     DIMFRETS_BUNDLE_SHEETS = 21,      /* a sheet's first byte below 64, offsets that do not follow
@@ -124,6 +134,27 @@ uint64_t dimfrets_operator_to_sheet(const uint8_t *in, size_t in_len,
  */
 uint64_t dimfrets_operator_to_gates(const uint8_t *in, size_t in_len,
                                     uint8_t *out, size_t out_len);
+
+/*
+ * Cuts a four-by-four unitary into gates.
+ * Reads a unitary at `in`: a byte k from 0 to 13, then 16 Gaussian integers row by row,
+ * each its real and then its imaginary part, 16 bits each, two's complement, low byte
+ * first. It stands for their matrix divided by root two to the power k; the first qubit
+ * is the left tensor factor. Writes a gate list at `out`: letters H h S s Z C, exactly t
+ * of them C, at most 256 * (t + 1) in all. The plain matrices of the letters, in their
+ * order, times omega = (1 + i) / root two to the power that is answered, are the unitary
+ * exactly: (1, 1), (1, -1) over root two for H and diag(1, i) for S on the first qubit,
+ * the same on the second for h and s, diag(1, 1, 1, -1) for Z, and diag(1, 1, 1, i) for
+ * C. No list whose plain matrices give the unitary up to a power of omega has fewer C,
+ * and no unitary of this form lacks a list. The letters, t and L are those of
+ * dimfrets_operator_to_gates for the six-by-six form of the unitary, and for the negative
+ * of that form, so the promise about Z holds too. Answers the count t, at most 2 * k + 2,
+ * the number of letters, L, and the power of omega, which follows from the letters.
+ * Refusals, the first that holds: 17 (in_len not 65, or k above 13), 18, 19, 6 (out_len
+ * below 256 * (t + 1), however many letters there are).
+ */
+uint64_t dimfrets_unitary_to_gates(const uint8_t *in, size_t in_len,
+                                   uint8_t *out, size_t out_len);
 
 /*
  * Multiplies a gate list.
@@ -228,7 +259,7 @@ static inline int dimfrets_is_refused(uint64_t answer)
     return (answer & 0xFF) != 0;
 }
 
-/* The number of a refusal, 1 to 16 or 20 to 23; 0 if the answer is none. */
+/* The number of a refusal, 1 to 23; 0 if the answer is none. */
 static inline unsigned dimfrets_refusal_number(uint64_t answer)
 {
     return (unsigned)(answer & 0xFF);
@@ -245,25 +276,37 @@ static inline unsigned dimfrets_value(uint64_t answer)
 }
 
 /*
- * The number of letters that an operator was cut into, or the length of a part; 0
- * unless an operator was cut into gates or a part found.
+ * The number of letters that an operator or a unitary was cut into, or the length of a
+ * part; 0 unless one of these was cut into gates or a part found.
  */
 static inline size_t dimfrets_length(uint64_t answer)
 {
     return (size_t)(answer >> 32 & 0xFFFF);
 }
 
-/* L, the number of cuts whose rows grouped as 2 and 4; 0 unless an operator was cut. */
+/*
+ * L, the number of cuts whose rows grouped as 2 and 4; 0 unless an operator or a unitary
+ * was cut.
+ */
 static inline unsigned dimfrets_loose(uint64_t answer)
 {
     return (unsigned)(answer >> 48 & 0xFF);
 }
 
 /*
- * The sign of a gate list, 0 if it multiplies to the operator and 1 if to its negative; 0
- * unless an operator was cut into gates.
+ * The sign of an operator's gate list, 0 if it multiplies to the operator and 1 if to its
+ * negative; of an answer about an operator. 0 unless it was cut into gates.
  */
 static inline unsigned dimfrets_sign(uint64_t answer)
+{
+    return (unsigned)(answer >> 56);
+}
+
+/*
+ * The power of omega, 0 to 7, that stands before a unitary's gate list; of an answer about
+ * a unitary. 0 unless it was cut into gates.
+ */
+static inline unsigned dimfrets_omega(uint64_t answer)
 {
     return (unsigned)(answer >> 56);
 }

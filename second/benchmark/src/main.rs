@@ -11,6 +11,7 @@ use std::time::{Duration, Instant};
 use samples::Random;
 
 const COUNTS: [u8; 4] = [0, 7, 14, 28];
+const UNITARY_COUNTS: [u8; 4] = [0, 7, 14, samples::MAX_UNITARY_COUNT];
 const INPUTS: usize = 64;
 const ROUNDS: usize = 15;
 const ROUND_TIME: Duration = Duration::from_millis(15);
@@ -18,6 +19,7 @@ const BUFFER: usize = dimfrets::QASM_BUFFER;
 const SHEETS: usize = dimfrets::MAX_SHEETS;
 const LAST_SHEET: u64 = SHEETS as u64 - 1;
 const GATES: &str = "operator_to_gates";
+const UNITARY: &str = "unitary_to_gates";
 
 // One buffer holds whatever a call writes.
 const _: () = assert!(BUFFER >= dimfrets::GATES_BUFFER && BUFFER >= dimfrets::BUNDLE_BUFFER);
@@ -33,7 +35,7 @@ struct Subject {
     plain: Run,
 }
 
-const SUBJECTS: [Subject; 9] = [
+const SUBJECTS: [Subject; 10] = [
     Subject {
         name: "operator_to_sheet",
         input: operator_file,
@@ -45,6 +47,12 @@ const SUBJECTS: [Subject; 9] = [
         input: operator_file,
         dimfrets: |file, out| dimfrets::operator_to_gates(file, out).unwrap().letters as u64,
         plain: |file, out| plain::operator_to_gates(file, out).unwrap().letters as u64,
+    },
+    Subject {
+        name: UNITARY,
+        input: unitary,
+        dimfrets: |unitary, out| dimfrets::unitary_to_gates(unitary, out).unwrap().letters as u64,
+        plain: |unitary, out| plain::unitary_to_gates(unitary, out).unwrap().letters as u64,
     },
     Subject {
         name: "gates_to_operator",
@@ -130,11 +138,19 @@ fn print_letters() {
     });
 }
 
-/// Hands out every subject with every count and the inputs that are drawn for the two.
+/// The counts of a subject's inputs; no unitary that is accepted has the largest count of an operator.
+fn counts(subject: &Subject) -> [u8; 4] {
+    match subject.name {
+        UNITARY => UNITARY_COUNTS,
+        _ => COUNTS,
+    }
+}
+
+/// Hands out every subject with every count of its inputs and the inputs that are drawn for the two.
 fn for_each_row(row: impl Fn(&Subject, u8, &[Vec<u8>])) {
     let mut random = Random::new(6);
     for subject in &SUBJECTS {
-        for count in COUNTS {
+        for count in counts(subject) {
             let inputs: Vec<_> = (0..INPUTS)
                 .map(|_| (subject.input)(&mut random, count))
                 .collect();
@@ -183,6 +199,11 @@ fn median(mut times: [f64; ROUNDS]) -> f64 {
 
 fn operator_file(random: &mut Random, count: u8) -> Vec<u8> {
     samples::file(&samples::operator(random, count))
+}
+
+/// A unitary with the least exponent that the count allows.
+fn unitary(random: &mut Random, count: u8) -> Vec<u8> {
+    samples::unitary_bytes(&samples::unitary(random, count, count.div_ceil(2)))
 }
 
 /// The gate list that the library writes for an operator file.

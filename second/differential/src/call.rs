@@ -1,4 +1,4 @@
-//! The nine calls and their answers, as numbers that both implementations share.
+//! The ten calls and their answers, as numbers that both implementations share.
 
 use std::panic::{catch_unwind, AssertUnwindSafe};
 
@@ -15,6 +15,7 @@ const _: () = assert!(dimfrets::QASM_BUFFER == plain::qasm::MAX_TEXT);
 pub enum Call {
     OperatorToSheet,
     OperatorToGates,
+    UnitaryToGates,
     GatesToOperator,
     SheetToOperator,
     StatesToOrder,
@@ -25,9 +26,10 @@ pub enum Call {
 }
 
 /// All calls, in the order of their discriminants.
-pub const CALLS: [Call; 9] = [
+pub const CALLS: [Call; 10] = [
     Call::OperatorToSheet,
     Call::OperatorToGates,
+    Call::UnitaryToGates,
     Call::GatesToOperator,
     Call::SheetToOperator,
     Call::StatesToOrder,
@@ -46,6 +48,13 @@ pub enum Answer {
         letters: usize,
         loose: u8,
         sign: u8,
+    },
+    /// The count of a unitary, the number of letters written, L, and the power of ω.
+    Unitary {
+        count: u64,
+        letters: usize,
+        loose: u8,
+        omega: u8,
     },
     /// The number of bytes written.
     Written(usize),
@@ -68,7 +77,8 @@ impl Answer {
         }
     }
 
-    /// The answer as far as the papers settle it: the letters are free, and the sign follows from them.
+    /// The answer as far as the papers settle it: the letters are free, and the sign or the power of ω
+    /// follows from them.
     pub fn without_letters(self) -> Answer {
         match self {
             Answer::Count { count, loose, .. } => Answer::Count {
@@ -76,6 +86,12 @@ impl Answer {
                 letters: 0,
                 loose,
                 sign: 0,
+            },
+            Answer::Unitary { count, loose, .. } => Answer::Unitary {
+                count,
+                letters: 0,
+                loose,
+                omega: 0,
             },
             other => other,
         }
@@ -88,6 +104,7 @@ impl Call {
         match self {
             Call::OperatorToSheet => "operator_to_sheet",
             Call::OperatorToGates => "operator_to_gates",
+            Call::UnitaryToGates => "unitary_to_gates",
             Call::GatesToOperator => "gates_to_operator",
             Call::SheetToOperator => "sheet_to_operator",
             Call::StatesToOrder => "states_to_order",
@@ -102,6 +119,7 @@ impl Call {
     pub fn refusals(self) -> &'static [u8] {
         match self {
             Call::OperatorToSheet | Call::OperatorToGates => &[1, 2, 3, 4, 5, 6],
+            Call::UnitaryToGates => &[17, 18, 19, 6],
             Call::GatesToOperator => &[7, 8, 9, 6],
             Call::SheetToOperator => &[10, 16, 11, 12, 15, 13, 6],
             Call::StatesToOrder => &[14],
@@ -126,6 +144,15 @@ impl Call {
                     loose,
                     sign,
                 }) => of_letters(count, letters, loose, sign),
+                Err(refusal) => Answer::Refused(refusal.number()),
+            },
+            Call::UnitaryToGates => match dimfrets::unitary_to_gates(input, out) {
+                Ok(dimfrets::UnitaryLetters {
+                    count,
+                    letters,
+                    loose,
+                    omega,
+                }) => of_unitary(count, letters, loose, omega),
                 Err(refusal) => Answer::Refused(refusal.number()),
             },
             Call::GatesToOperator => of_refusal(dimfrets::gates_to_operator(input, out)),
@@ -159,6 +186,15 @@ impl Call {
                     loose,
                     sign,
                 }) => of_letters(count, letters, loose, sign),
+                Err(number) => Answer::Refused(number),
+            },
+            Call::UnitaryToGates => match plain::unitary_to_gates(input, out) {
+                Ok(plain::UnitaryLetters {
+                    count,
+                    letters,
+                    loose,
+                    omega,
+                }) => of_unitary(count, letters, loose, omega),
                 Err(number) => Answer::Refused(number),
             },
             Call::GatesToOperator => of_number(plain::gates_to_operator(input, out)),
@@ -218,6 +254,15 @@ fn of_letters(count: u8, letters: usize, loose: u8, sign: u8) -> Answer {
         letters,
         loose,
         sign,
+    }
+}
+
+fn of_unitary(count: u8, letters: usize, loose: u8, omega: u8) -> Answer {
+    Answer::Unitary {
+        count: count.into(),
+        letters,
+        loose,
+        omega,
     }
 }
 

@@ -2,12 +2,14 @@
 //! difference.
 
 use plain::bundle::MAX_BUNDLE;
+use plain::form;
 use plain::gate::LETTERS_PER_COUNT;
-use plain::operator::OPERATOR_BYTES;
+use plain::operator::{Operator, OPERATOR_BYTES};
 use plain::qasm::{self, MAX_STATEMENT};
 use plain::refusal::NO_SHEET;
 use plain::sheet::{MAX_SHEET, MIN_SHEET};
-use samples::{Random, Text, FIRST_LINES};
+use plain::unitary::Unitary;
+use samples::{Random, Text, FIRST_LINES, MAX_UNITARY_COUNT};
 
 use crate::call::{self, Answer, Call};
 use crate::gates;
@@ -22,6 +24,9 @@ pub struct Judge {
     pub tally: Tally,
     random: Random,
 }
+
+/// One of the implementations.
+type Run = fn(Call, &[u8], &mut [u8]) -> Answer;
 
 /// One input and what came of it.
 struct Case<'a> {
@@ -68,8 +73,8 @@ impl Judge {
         };
         case.check(lent_input.unchanged_past(0));
         self.tally.add(call, tested, case.last_byte());
-        if let Some((list, sign)) = case.gates() {
-            self.tally.add_gates(list, sign);
+        if let Some((list, beside)) = case.gates() {
+            self.tally.add_gates(call, list, beside);
         }
         if let Some(bundle) = case.bundle() {
             self.tally.add_bundle(call, tested, bundle);
@@ -90,6 +95,13 @@ impl Judge {
         match call {
             Call::OperatorToSheet => count() + MIN_SHEET,
             Call::OperatorToGates => LETTERS_PER_COUNT * (count() + 1),
+            Call::UnitaryToGates => {
+                let count = match Unitary::read(input) {
+                    Ok(unitary) => form::of_unitary(&unitary).exponent.into(),
+                    Err(_) => self.random.below(usize::from(MAX_UNITARY_COUNT) + 1),
+                };
+                LETTERS_PER_COUNT * (count + 1)
+            }
             Call::GatesToOperator | Call::SheetToOperator => OPERATOR_BYTES,
             Call::StatesToOrder | Call::BundleSheet => 0,
             Call::SheetsToBundle => {
@@ -132,6 +144,7 @@ impl Case<'_> {
         );
         match (self.call, *tested) {
             (Call::OperatorToGates, Answer::Count { .. }) => self.check_gates(),
+            (Call::UnitaryToGates, Answer::Unitary { .. }) => self.check_unitary(),
             _ => self.demand(tested_out.same(plain_out), "the output differs"),
         }
         if let Some((list, text)) = self.list_and_text() {
@@ -153,6 +166,34 @@ impl Case<'_> {
         }
     }
 
+    /// Both gate lists of a unitary keep their promises. Each is also what the same implementation writes
+    /// for the unitary's form and for the negative of that.
+    fn check_unitary(&self) {
+        let unitary = Unitary::read(self.input).expect("an accepted unitary");
+        let form = form::of_unitary(&unitary);
+        let runs: [Run; 2] = [Call::tested, Call::plain];
+        for ((name, (answer, out)), run) in self.sides().into_iter().zip(runs) {
+            let (count, loose, omega) = match *answer {
+                Answer::Unitary {
+                    count,
+                    loose,
+                    omega,
+                    ..
+                } => (count, loose, omega),
+                _ => unreachable!("both implementations answer a unitary"),
+            };
+            let list = &out.middle()[..self.written(*answer)];
+            if let Err(fault) = gates::check_unitary(self.input, list, count, omega) {
+                self.end(&format!("{name}: {fault}"));
+            }
+            for form in [form, form.negative()] {
+                if gates_of(run, &form) != Some((count, list.to_vec(), loose)) {
+                    self.end(&format!("{name}: the form has another gate list"));
+                }
+            }
+        }
+    }
+
     /// The text is read as the list, and the list is written as the text but for the order of qubits.
     fn check_text(&self, list: &[u8], text: &[u8]) {
         let read = qasm::read(text);
@@ -168,6 +209,7 @@ impl Case<'_> {
         match (self.call, answer) {
             (Call::OperatorToSheet, Answer::Count { count, .. }) => count as usize + MIN_SHEET,
             (Call::OperatorToGates, Answer::Count { letters, .. }) => letters,
+            (Call::UnitaryToGates, Answer::Unitary { letters, .. }) => letters,
             (Call::GatesToOperator | Call::SheetToOperator, Answer::Count { .. }) => OPERATOR_BYTES,
             (_, Answer::Written(bytes)) => bytes,
             _ => 0,
@@ -190,10 +232,11 @@ impl Case<'_> {
         sheet.last().copied()
     }
 
-    /// The gate list that an operator was cut into, and its sign, if one was.
+    /// The gate list that an operator or a unitary was cut into, and its sign or power of ω, if one was.
     fn gates(&self) -> Option<(&[u8], u8)> {
         match (self.call, self.tested.0) {
             (Call::OperatorToGates, Answer::Count { sign, .. }) => Some((self.output(), sign)),
+            (Call::UnitaryToGates, Answer::Unitary { omega, .. }) => Some((self.output(), omega)),
             _ => None,
         }
     }
@@ -242,6 +285,23 @@ impl Case<'_> {
             );
         }
         std::process::exit(1);
+    }
+}
+
+/// The count, the gate list and the L that an implementation gives for an operator, if it does.
+fn gates_of(run: Run, operator: &Operator) -> Option<(u64, Vec<u8>, u8)> {
+    let mut out = vec![0; LETTERS_PER_COUNT * (usize::from(operator.exponent) + 1)];
+    match run(Call::OperatorToGates, &samples::file(operator), &mut out) {
+        Answer::Count {
+            count,
+            letters,
+            loose,
+            ..
+        } => {
+            out.truncate(letters);
+            Some((count, out, loose))
+        }
+        _ => None,
     }
 }
 

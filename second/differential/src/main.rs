@@ -18,6 +18,7 @@ mod sheets;
 mod tally;
 mod texts;
 mod trials;
+mod unitaries;
 
 use std::process::ExitCode;
 
@@ -29,6 +30,7 @@ fn main() -> ExitCode {
     cliffords::run(&mut judge);
     negatives::run(&mut judge);
     operators::run(&mut judge);
+    unitaries::run(&mut judge);
     lists::run(&mut judge);
     sheets::run(&mut judge);
     orders::run(&mut judge);

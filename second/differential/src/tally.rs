@@ -1,7 +1,7 @@
 //! How often each call ran, each refusal of each call came, and each count, or figure of states, each
-//! L, each sign of a gate list, each number of Z in a stretch of one, each last byte of a sheet, each
-//! number of sheets in a bundle, each length and position of a part of one, each statement of a text, and
-//! each number of few or of most statements was seen.
+//! L, each sign or power of ω of a gate list, each number of Z in a stretch of one, each last byte of a
+//! sheet, each number of sheets in a bundle, each length and position of a part of one, each statement of a
+//! text, and each number of few or of most statements was seen.
 
 mod gates;
 mod texts;
@@ -11,17 +11,19 @@ use std::fmt::Display;
 use dimfrets::Refusal;
 use plain::bundle::{MAX_PART, MAX_SHEETS, NUMBER_BYTES};
 use plain::sheet::MIN_SHEET;
-use samples::{LETTERS, STATEMENTS};
+use samples::{LETTERS, MAX_UNITARY_COUNT, STATEMENTS};
 
 use crate::call::{Answer, Call, CALLS};
 
-use gates::Gates;
+use gates::{Beside, Gates, POWER, SIGN};
 use texts::Texts;
 
 const REFUSALS: usize = 256;
 const COUNTS: usize = 29;
+const UNITARY_COUNTS: usize = MAX_UNITARY_COUNT as usize + 1;
 const FIGURES: usize = 57;
 const LOOSE: usize = 28;
+const UNITARY_LOOSE: usize = 18;
 const LAST_BYTES: usize = 2;
 const NUMBERS_OF_SHEETS: usize = MAX_SHEETS + 1;
 const PART_LENGTHS: usize = MAX_PART + 1;
@@ -29,19 +31,26 @@ const LEAST_INPUTS: u64 = 200_000;
 const LEAST_PER_REFUSAL: u64 = 1000;
 
 /// The calls that answer a count, or a figure of states.
-const COUNTING_CALLS: [Call; 5] = [
+const COUNTING_CALLS: [Call; 6] = [
     Call::OperatorToSheet,
     Call::OperatorToGates,
+    Call::UnitaryToGates,
     Call::GatesToOperator,
     Call::SheetToOperator,
     Call::StatesToOrder,
 ];
 
-/// The calls that cut an operator; L is below the count.
-const CUTTING_CALLS: [Call; 2] = [Call::OperatorToSheet, Call::OperatorToGates];
+/// The calls that cut, and how many L each has to meet, from 0 up; L is below the count, and a unitary that
+/// has a small exponent for its count has few that are large.
+const CUTTING_CALLS: [(Call, usize); 3] = [
+    (Call::OperatorToSheet, LOOSE),
+    (Call::OperatorToGates, LOOSE),
+    (Call::UnitaryToGates, UNITARY_LOOSE),
+];
 
-/// The call that writes the gate list of an operator.
-const GATES_CALL: Call = Call::OperatorToGates;
+/// The calls that write gate lists, and what stands beside a list.
+const GATES_CALLS: [(Call, Beside); 2] =
+    [(Call::OperatorToGates, SIGN), (Call::UnitaryToGates, POWER)];
 
 /// The calls that write or read sheets.
 const SHEET_CALLS: [Call; 2] = [Call::OperatorToSheet, Call::SheetToOperator];
@@ -64,7 +73,7 @@ pub struct Tally {
     refusals: [[u64; REFUSALS]; CALLS.len()],
     counts: [Vec<u64>; CALLS.len()],
     loose: [[u64; LOOSE]; CALLS.len()],
-    gates: Gates,
+    gates: [Gates; CALLS.len()],
     last_bytes: [[u64; LAST_BYTES]; CALLS.len()],
     sheets: [[u64; NUMBERS_OF_SHEETS]; CALLS.len()],
     part_lengths: [u64; PART_LENGTHS],
@@ -79,7 +88,7 @@ impl Tally {
             refusals: [[0; REFUSALS]; CALLS.len()],
             counts: CALLS.map(|call| vec![0; counts(call)]),
             loose: [[0; LOOSE]; CALLS.len()],
-            gates: Gates::new(),
+            gates: CALLS.map(|_| Gates::new()),
             last_bytes: [[0; LAST_BYTES]; CALLS.len()],
             sheets: [[0; NUMBERS_OF_SHEETS]; CALLS.len()],
             part_lengths: [0; PART_LENGTHS],
@@ -93,7 +102,7 @@ impl Tally {
         self.inputs[call as usize] += 1;
         match answer {
             Answer::Refused(number) => self.refusals[call as usize][usize::from(number)] += 1,
-            Answer::Count { count, loose, .. } => {
+            Answer::Count { count, loose, .. } | Answer::Unitary { count, loose, .. } => {
                 self.counts[call as usize][count as usize] += 1;
                 self.loose[call as usize][usize::from(loose)] += 1;
             }
@@ -104,9 +113,9 @@ impl Tally {
         }
     }
 
-    /// Counts a gate list that an operator was cut into.
-    pub fn add_gates(&mut self, list: &[u8], sign: u8) {
-        self.gates.add(list, sign);
+    /// Counts a gate list that was written, with its sign or power of ω.
+    pub fn add_gates(&mut self, call: Call, list: &[u8], beside: u8) {
+        self.gates[call as usize].add(list, beside);
     }
 
     /// Counts a bundle that was written or read, and the part of it that was handed back, if one was.
@@ -128,9 +137,9 @@ impl Tally {
     }
 
     /// Prints a line for each call, one for all refusals and one for those of each call, one for the
-    /// counts of each call that answers them, one for the L of each call that cuts, two for the gate lists
-    /// of operators, one for the last bytes of each call with sheets, one for the numbers of sheets of each
-    /// call with bundles, two for the parts, and three for each call with texts.
+    /// counts of each call that answers them, one for the L of each call that cuts, two for each call that
+    /// writes gate lists, one for the last bytes of each call with sheets, one for the numbers of sheets of
+    /// each call with bundles, two for the parts, and three for each call with texts.
     pub fn print(&self) {
         for (call, inputs) in CALLS.iter().zip(self.inputs) {
             println!("{}: {inputs} inputs", call.name());
@@ -145,11 +154,13 @@ impl Tally {
             let times = numbered(&self.counts[call as usize]);
             println!("counts of {}:{times}", call.name());
         }
-        for call in CUTTING_CALLS {
-            let times = numbered(&self.loose[call as usize]);
+        for (call, known) in CUTTING_CALLS {
+            let times = numbered(&self.loose[call as usize][..known]);
             println!("L of {}:{times}", call.name());
         }
-        self.gates.print(GATES_CALL);
+        for (call, beside) in GATES_CALLS {
+            self.gates[call as usize].print(call, &beside);
+        }
         for call in SHEET_CALLS {
             let times = numbered(&self.last_bytes[call as usize]);
             println!("last bytes of {}:{times}", call.name());
@@ -191,10 +202,12 @@ impl Tally {
         for call in COUNTING_CALLS {
             gaps.extend(missing("count", call, &self.counts[call as usize]));
         }
-        for call in CUTTING_CALLS {
-            gaps.extend(missing("L", call, &self.loose[call as usize]));
+        for (call, known) in CUTTING_CALLS {
+            gaps.extend(missing("L", call, &self.loose[call as usize][..known]));
         }
-        gaps.extend(self.gates.gaps(GATES_CALL));
+        for (call, beside) in GATES_CALLS {
+            gaps.extend(self.gates[call as usize].gaps(call, &beside));
+        }
         for call in SHEET_CALLS {
             gaps.extend(missing("last byte", call, &self.last_bytes[call as usize]));
         }
@@ -243,6 +256,7 @@ fn missing(what: &str, call: Call, times: &[u64]) -> Vec<String> {
 /// How many counts, or figures, a call can answer.
 fn counts(call: Call) -> usize {
     match call {
+        Call::UnitaryToGates => UNITARY_COUNTS,
         Call::StatesToOrder => FIGURES,
         _ => COUNTS,
     }

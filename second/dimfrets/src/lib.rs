@@ -57,6 +57,27 @@
 //! # Ok::<(), dimfrets::Refusal>(())
 //! ```
 //!
+//! The unitary of `CHC`: the exponent k, and 16 Gaussian integers, the real part first. Its plain matrices,
+//! times a power of ω = (1 + i) / √2, are the unitary.
+//!
+//! ```
+//! let rows: [[(i16, i16); 4]; 4] = [
+//!     [(1, 0), (0, 0), (1, 0), (0, 0)],
+//!     [(0, 0), (1, 0), (0, 0), (0, 1)],
+//!     [(1, 0), (0, 0), (-1, 0), (0, 0)],
+//!     [(0, 0), (0, 1), (0, 0), (1, 0)],
+//! ];
+//! let parts = rows.iter().flatten().flat_map(|&(re, im)| [re, im]);
+//! let mut unitary = vec![1];
+//! unitary.extend(parts.flat_map(i16::to_le_bytes));
+//!
+//! let mut list = vec![0; dimfrets::GATES_BUFFER];
+//! let written = dimfrets::unitary_to_gates(&unitary, &mut list)?;
+//! assert_eq!((written.count, written.loose), (2, 1));
+//! assert!(written.omega < 8);
+//! # Ok::<(), dimfrets::Refusal>(())
+//! ```
+//!
 //! Its sheet behind that of the identity, in a bundle: the sheets, their offsets, and how many there
 //! are.
 //!
@@ -105,11 +126,13 @@ pub use refusal::Refusal;
 
 /// The length of an operator file.
 pub const OPERATOR_BYTES: usize = 73;
+/// The length of a unitary.
+pub const UNITARY_BYTES: usize = 65;
 /// The length of the longest sheet.
 pub const MAX_SHEET: usize = 36;
 /// The length of the longest gate list that is read, also from a text.
 pub const MAX_LETTERS: usize = 8192;
-/// The length of a buffer that holds the gate list of any operator.
+/// The length of a buffer that holds the gate list of any operator or unitary.
 pub const GATES_BUFFER: usize = 256 * 29;
 /// The most sheets of a bundle.
 pub const MAX_SHEETS: usize = 512;
@@ -138,12 +161,23 @@ pub struct Letters {
     pub sign: u8,
 }
 
+/// What the written gate list of a unitary has: its count, the number of its letters C, all its letters, L,
+/// the number of cuts whose rows grouped as 2 and 4, and the power of ω, from 0 to 7, that stands before it.
+#[derive(Clone, Copy, Debug, PartialEq, Eq)]
+pub struct UnitaryLetters {
+    pub count: u8,
+    pub letters: usize,
+    pub loose: u8,
+    pub omega: u8,
+}
+
 /// A call from lent bytes to lent bytes.
 type Call = unsafe extern "C" fn(*const u8, usize, *mut u8, usize) -> u64;
 
 extern "C" {
     fn dimfrets_operator_to_sheet(i: *const u8, i_len: usize, o: *mut u8, o_len: usize) -> u64;
     fn dimfrets_operator_to_gates(i: *const u8, i_len: usize, o: *mut u8, o_len: usize) -> u64;
+    fn dimfrets_unitary_to_gates(i: *const u8, i_len: usize, o: *mut u8, o_len: usize) -> u64;
     fn dimfrets_gates_to_operator(i: *const u8, i_len: usize, o: *mut u8, o_len: usize) -> u64;
     fn dimfrets_sheet_to_operator(i: *const u8, i_len: usize, o: *mut u8, o_len: usize) -> u64;
     fn dimfrets_states_to_order(t: u64, p: u64) -> u64;
@@ -172,6 +206,19 @@ pub fn operator_to_sheet(file: &[u8], out: &mut [u8]) -> Result<Cuts, Refusal> {
 /// Refuses with [`Refusal::FileLength`] to [`Refusal::BufferTooShort`], in their order.
 pub fn operator_to_gates(file: &[u8], out: &mut [u8]) -> Result<Letters, Refusal> {
     letters(run(dimfrets_operator_to_gates, file, out))
+}
+
+/// Cuts a four-by-four unitary into a gate list of t letters C, the fewest for the unitary up to a power of
+/// ω; `out` has at least 256 × (t + 1) bytes. The unitary has 65 bytes: the exponent k, at most 13, and 16
+/// Gaussian integers row by row, the real part first, 16 bits each, low byte first; the first qubit is the
+/// left tensor factor. ω to the power that is answered, times the plain matrices H, S, CZ and CS of the
+/// letters, is the unitary exactly. The letters, t and L are those of [`operator_to_gates`] for the
+/// six-by-six form of the unitary.
+///
+/// Refuses with [`Refusal::UnitaryShape`], [`Refusal::UnitaryEntry`], [`Refusal::NotUnitary`] or
+/// [`Refusal::BufferTooShort`], in this order.
+pub fn unitary_to_gates(unitary: &[u8], out: &mut [u8]) -> Result<UnitaryLetters, Refusal> {
+    unitary_letters(run(dimfrets_unitary_to_gates, unitary, out))
 }
 
 /// Multiplies a gate list, writes the operator file, 73 bytes, and answers the operator's count.
@@ -265,7 +312,7 @@ fn readable(input: &[u8]) -> &[u8] {
     }
 }
 
-/// The parts of an answer that is no refusal.
+/// The parts of an answer that is no refusal; the last is a sign or a power of ω.
 struct Parts {
     value: u32,
     length: u16,
@@ -282,13 +329,13 @@ impl Parts {
     fn without_length(self) -> Parts {
         assert_eq!(
             self.length, 0,
-            "only an operator cut into gates or a part of a bundle has a length"
+            "only a gate list that is written or a part of a bundle has a length"
         );
         self
     }
 
     fn without_loose(self) -> Parts {
-        assert_eq!(self.loose, 0, "only an operator that is cut has an L");
+        assert_eq!(self.loose, 0, "only what is cut has an L");
         self
     }
 
@@ -299,7 +346,8 @@ impl Parts {
 }
 
 /// Takes the word of an answer apart: the refusal's number in bits 0 to 7, the value in 8 to 31,
-/// the length in 32 to 47, L in 48 to 55, the sign in 56 to 63. With a refusal all other bits are 0.
+/// the length in 32 to 47, L in 48 to 55, the sign or the power of ω in 56 to 63. With a refusal all other
+/// bits are 0.
 fn parts(word: u64) -> Result<Parts, Refusal> {
     if word as u8 != 0 {
         let number = u8::try_from(word).expect("a refusal has no other part");
@@ -353,6 +401,18 @@ fn letters(word: u64) -> Result<Letters, Refusal> {
     })
 }
 
+/// The count of a unitary's written gate list, its length, L, and the power of ω.
+fn unitary_letters(word: u64) -> Result<UnitaryLetters, Refusal> {
+    let parts = parts(word)?;
+    assert!(parts.sign <= 7, "a power of omega is 0 to 7");
+    Ok(UnitaryLetters {
+        count: byte(parts.value),
+        letters: parts.length.into(),
+        loose: parts.loose,
+        omega: parts.sign,
+    })
+}
+
 /// A count or a figure.
 fn byte(value: u32) -> u8 {
     u8::try_from(value).expect("a count is below 256")
@@ -395,6 +455,17 @@ mod tests {
         };
         assert_eq!(cuts(27 << 48 | 28 << 8), Ok(taken));
         assert_eq!(cuts(6), Err(Refusal::BufferTooShort));
+        let phased = UnitaryLetters {
+            count: 26,
+            letters: 1,
+            loose: 25,
+            omega: 7,
+        };
+        let word = 7 << 56 | 25 << 48 | 1 << 32 | 26 << 8;
+        assert_eq!(unitary_letters(word), Ok(phased));
+        assert_eq!(unitary_letters(17), Err(Refusal::UnitaryShape));
+        assert_eq!(unitary_letters(18), Err(Refusal::UnitaryEntry));
+        assert_eq!(unitary_letters(19), Err(Refusal::NotUnitary));
         assert_eq!(count(28 << 8), Ok(28));
         assert_eq!(count(14), Err(Refusal::OrderOutOfRange));
         assert_eq!(count(15), Err(Refusal::SheetSign));
@@ -410,7 +481,7 @@ mod tests {
     #[test]
     #[should_panic(expected = "known number")]
     fn a_refusal_has_a_known_number() {
-        let _ = count(17);
+        let _ = count(24);
     }
 
     #[test]
@@ -456,6 +527,30 @@ mod tests {
     }
 
     #[test]
+    #[should_panic(expected = "a power of omega is 0 to 7")]
+    fn a_power_of_omega_is_not_8() {
+        let _ = unitary_letters(8 << 56 | 26 << 8);
+    }
+
+    #[test]
+    #[should_panic(expected = "a power of omega is 0 to 7")]
+    fn a_power_of_omega_has_no_bit_63() {
+        let _ = unitary_letters(128 << 56 | 26 << 8);
+    }
+
+    #[test]
+    #[should_panic(expected = "no other part")]
+    fn a_refusal_has_no_power_of_omega() {
+        let _ = unitary_letters(1 << 56 | 19);
+    }
+
+    #[test]
+    #[should_panic(expected = "below 256")]
+    fn the_count_of_a_unitary_is_below_256() {
+        let _ = unitary_letters(1 << 31);
+    }
+
+    #[test]
     #[should_panic(expected = "has a sign")]
     fn a_sheet_has_no_sign_beside_it() {
         let _ = cuts(1 << 56 | 28 << 8);
@@ -486,13 +581,13 @@ mod tests {
     }
 
     #[test]
-    #[should_panic(expected = "only an operator that is cut")]
-    fn only_an_operator_that_is_cut_has_an_l() {
+    #[should_panic(expected = "only what is cut")]
+    fn only_what_is_cut_has_an_l() {
         let _ = count(1 << 48 | 28 << 8);
     }
 
     #[test]
-    #[should_panic(expected = "only an operator that is cut")]
+    #[should_panic(expected = "only what is cut")]
     fn a_part_has_no_l() {
         let _ = part_of(&[0; 16], 1 << 48 | 8 << 32);
     }
@@ -510,7 +605,7 @@ mod tests {
     }
 
     #[test]
-    #[should_panic(expected = "only an operator that is cut")]
+    #[should_panic(expected = "only what is cut")]
     fn a_bundle_has_no_l() {
         let _ = bytes_written(1 << 48 | 2 << 8);
     }
@@ -589,6 +684,67 @@ mod tests {
             let refused = operator_to_gates(&file, &mut list[..255]);
             assert_eq!(refused, Err(Refusal::BufferTooShort));
         }
+    }
+
+    /// The bytes of a number at every place of the diagonal.
+    fn diagonal(exponent: u8, re: i16, im: i16) -> [u8; UNITARY_BYTES] {
+        let mut unitary = [0; UNITARY_BYTES];
+        unitary[0] = exponent;
+        for at in (1..UNITARY_BYTES).step_by(4 * 5) {
+            unitary[at..at + 2].copy_from_slice(&re.to_le_bytes());
+            unitary[at + 2..at + 4].copy_from_slice(&im.to_le_bytes());
+        }
+        unitary
+    }
+
+    #[test]
+    fn a_unitary_has_a_power_of_omega() {
+        let powers = [
+            (0, 1, 0),
+            (1, 1, 1),
+            (0, 0, 1),
+            (1, -1, 1),
+            (0, -1, 0),
+            (13, -64, -64),
+            (12, 0, -64),
+            (1, 1, -1),
+        ];
+        for (omega, (exponent, re, im)) in (0..).zip(powers) {
+            let mut list = [9; 256];
+            let empty = UnitaryLetters {
+                count: 0,
+                letters: 0,
+                loose: 0,
+                omega,
+            };
+            let unitary = diagonal(exponent, re, im);
+            assert_eq!(unitary_to_gates(&unitary, &mut list), Ok(empty));
+            let refused = unitary_to_gates(&unitary, &mut list[..255]);
+            assert_eq!(refused, Err(Refusal::BufferTooShort));
+            assert_eq!(list, [9; 256]);
+        }
+    }
+
+    #[test]
+    fn a_refused_unitary_is_not_cut() {
+        let identity = diagonal(0, 1, 0);
+        let refusals = [
+            (identity[..64].to_vec(), Refusal::UnitaryShape),
+            ([&identity[..], &[0]].concat(), Refusal::UnitaryShape),
+            (diagonal(14, 128, 0).to_vec(), Refusal::UnitaryShape),
+            (diagonal(255, 0, 0).to_vec(), Refusal::UnitaryShape),
+            (diagonal(0, 1, 1).to_vec(), Refusal::UnitaryEntry),
+            (diagonal(13, 64, -65).to_vec(), Refusal::UnitaryEntry),
+            (diagonal(12, i16::MIN, 0).to_vec(), Refusal::UnitaryEntry),
+            (diagonal(1, 1, 0).to_vec(), Refusal::NotUnitary),
+            (diagonal(12, 0, 63).to_vec(), Refusal::NotUnitary),
+        ];
+        let mut out = [9; GATES_BUFFER];
+        for (unitary, refusal) in refusals {
+            assert_eq!(unitary_to_gates(&unitary, &mut out), Err(refusal));
+            assert_eq!(unitary_to_gates(&unitary, &mut []), Err(refusal));
+        }
+        assert_eq!(out, [9; GATES_BUFFER]);
     }
 
     #[test]
@@ -730,6 +886,7 @@ mod tests {
             Err(Refusal::BufferTooShort)
         );
         assert_eq!(sheet_to_operator(&[], &mut []), Err(Refusal::SheetLength));
+        assert_eq!(unitary_to_gates(&[], &mut []), Err(Refusal::UnitaryShape));
         let mut out = [0; OPERATOR_BYTES];
         assert_eq!(gates_to_operator(&[], &mut out), Ok(0));
         assert_eq!(bundle_sheet(&[], 0), Err(Refusal::BundleTrailer));

@@ -22,6 +22,9 @@ pub enum Refusal {
     OrderOutOfRange = 14,
     SheetSign = 15,
     SheetCount = 16,
+    UnitaryShape = 17,
+    UnitaryEntry = 18,
+    NotUnitary = 19,
     BundleTrailer = 20,
     BundleSheets = 21,
     NoSheet = 22,
@@ -30,7 +33,7 @@ pub enum Refusal {
 
 impl Refusal {
     /// All refusals, in the order of their numbers.
-    pub const ALL: [Refusal; 20] = [
+    pub const ALL: [Refusal; 23] = [
         Refusal::FileLength,
         Refusal::ExponentTooLarge,
         Refusal::EntryTooLarge,
@@ -47,18 +50,21 @@ impl Refusal {
         Refusal::OrderOutOfRange,
         Refusal::SheetSign,
         Refusal::SheetCount,
+        Refusal::UnitaryShape,
+        Refusal::UnitaryEntry,
+        Refusal::NotUnitary,
         Refusal::BundleTrailer,
         Refusal::BundleSheets,
         Refusal::NoSheet,
         Refusal::NoStatement,
     ];
 
-    /// The number in documents 01 and 02, 1 to 16 or 20 to 23.
+    /// The number in documents 01 and 02, 1 to 23.
     pub fn number(self) -> u8 {
         self as u8
     }
 
-    /// The refusal with a number of 1 to 16 or 20 to 23.
+    /// The refusal with a number of 1 to 23.
     pub fn from_number(number: u8) -> Option<Refusal> {
         let mut all = Refusal::ALL.into_iter();
         all.find(|refusal| refusal.number() == number)
@@ -86,6 +92,11 @@ impl Refusal {
             Refusal::OrderOutOfRange => "t is above 28 or the spoilage above 1000 thousandths",
             Refusal::SheetSign => "the last byte of the sheet is above 1, or column 1 is negative",
             Refusal::SheetCount => "the first byte of the sheet is not its length plus 56",
+            Refusal::UnitaryShape => "the unitary is not 65 bytes long, or its exponent is above 13",
+            Refusal::UnitaryEntry => {
+                "the squared size of an entry of the unitary exceeds 2 to the power k"
+            }
+            Refusal::NotUnitary => "the matrix is not unitary",
             Refusal::BundleTrailer => {
                 "the bundle has no trailer of a fitting length, or more than 512 sheets"
             }
@@ -115,11 +126,11 @@ mod tests {
 
     #[test]
     fn numbers_lead_to_their_refusals() {
-        for (number, refusal) in (1..=16).chain(20..=23).zip(Refusal::ALL) {
+        for (number, refusal) in (1..=23).zip(Refusal::ALL) {
             assert_eq!(refusal.number(), number);
             assert_eq!(Refusal::from_number(number), Some(refusal));
         }
-        for number in [0].into_iter().chain(17..=19).chain(24..=255) {
+        for number in [0].into_iter().chain(24..=255) {
             assert_eq!(Refusal::from_number(number), None);
         }
     }

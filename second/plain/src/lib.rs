@@ -1,6 +1,6 @@
-//! The CS cutter in plain Rust: operators, sheets and gate lists, bundles of sheets, gate lists as
-//! OpenQASM 2.0 text, and the states to order. Every definition, number and order of refusals is that
-//! of document 01, or of document 02 where that is later.
+//! The CS cutter in plain Rust: operators, sheets and gate lists, four-by-four unitaries, bundles of
+//! sheets, gate lists as OpenQASM 2.0 text, and the states to order. Every definition, number and order of
+//! refusals is that of document 01, or of document 02 where that is later.
 //!
 //! A refusal is answered by its number (see [`refusal`]); it leaves every byte of the output as it
 //! was. On success the bytes past the output keep theirs too.
@@ -8,14 +8,17 @@
 #![forbid(unsafe_code)]
 
 pub mod bundle;
+pub mod form;
 pub mod gate;
 pub mod generator;
 pub mod matrix;
+pub mod omega;
 pub mod operator;
 pub mod qasm;
 pub mod refusal;
 pub mod sheet;
 pub mod stretch;
+pub mod unitary;
 pub mod words;
 
 use std::cmp::Ordering;
@@ -23,6 +26,7 @@ use std::cmp::Ordering;
 use gate::{LETTERS_PER_COUNT, MAX_LETTERS};
 use operator::{Operator, MAX_EXPONENT, OPERATOR_BYTES};
 use sheet::Sheet;
+use unitary::Unitary;
 
 /// The largest spoilage, in thousandths.
 pub const MAX_SPOILAGE: u64 = 1000;
@@ -45,6 +49,17 @@ pub struct Letters {
     pub sign: u8,
 }
 
+/// What cutting a unitary into gates answers: the count, the number of letters written and L as for its
+/// six-by-six form, and the power of ω, from 0 to 7, that makes the product of the plain matrices the
+/// unitary.
+#[derive(Clone, Copy, Debug, PartialEq, Eq)]
+pub struct UnitaryLetters {
+    pub count: u8,
+    pub letters: usize,
+    pub loose: u8,
+    pub omega: u8,
+}
+
 /// Cuts an operator file into its sheet; answers the count and L.
 pub fn operator_to_sheet(file: &[u8], out: &mut [u8]) -> Result<Cuts, u8> {
     let (sheet, loose) = Sheet::cut_with_loose(Operator::read(file)?);
@@ -65,6 +80,24 @@ pub fn operator_to_gates(file: &[u8], out: &mut [u8]) -> Result<Letters, u8> {
         letters,
         loose,
         sign,
+    })
+}
+
+/// Cuts a unitary into the gate list of its six-by-six form, of the one whose sheet has the last byte 0. ω
+/// to the power that is answered, times the plain matrices of the letters, is the unitary.
+pub fn unitary_to_gates(bytes: &[u8], out: &mut [u8]) -> Result<UnitaryLetters, u8> {
+    let unitary = Unitary::read(bytes)?;
+    let (mut sheet, loose) = Sheet::cut_with_loose(form::of_unitary(&unitary));
+    sheet.negative = false;
+    let out = lend(out, LETTERS_PER_COUNT * (sheet.generators.len() + 1))?;
+    let (letters, _) = words::write_gates(&sheet, out);
+    let product = Unitary::product(&out[..letters]);
+    let omega = unitary.power_of_omega_from(&product);
+    Ok(UnitaryLetters {
+        count: sheet.count(),
+        letters,
+        loose,
+        omega: omega.expect("the letters give the unitary up to a power of omega"),
     })
 }
 

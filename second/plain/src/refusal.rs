@@ -1,5 +1,5 @@
 //! The numbers of the refusals, in the order of document 01, "What can be turned away"; of document
-//! 02, 16 follows 10 (P4), 15 follows 12 (P2), and 20 to 22 (P7) and 23 (P8) come last.
+//! 02, 16 follows 10 (P4), 15 follows 12 (P2), and 17 to 19 (P5), 20 to 22 (P7) and 23 (P8) come last.
 
 /// An operator file whose length is not 73.
 pub const FILE_LENGTH: u8 = 1;
@@ -33,6 +33,12 @@ pub const SHEET_SIGN: u8 = 15;
 pub const OTHER_SHEET: u8 = 13;
 /// An order with t above 28 or p above 1000.
 pub const ORDER_OUT_OF_RANGE: u8 = 14;
+/// A unitary whose length is not 65, or with k above 13.
+pub const UNITARY_SHAPE: u8 = 17;
+/// An entry of a unitary whose squared size exceeds 2 to the power k.
+pub const UNITARY_ENTRY: u8 = 18;
+/// A matrix that is not unitary.
+pub const NOT_UNITARY: u8 = 19;
 /// A bundle with no trailer of a fitting length, or of more than 512 sheets.
 pub const BUNDLE_TRAILER: u8 = 20;
 /// A sheet's first byte below 64, offsets that do not follow the sheets, or sheets that do not end

@@ -1,0 +1,89 @@
+//! Unitaries for the call that cuts them: known ones, one for every Clifford, accepted ones of every count
+//! and exponent, times every power of ω, and ones damaged in every way that document 02, P5, turns away.
+
+mod cases;
+mod damages;
+
+use plain::gate::LETTERS_PER_COUNT;
+use plain::unitary::{Unitary, MAX_EXPONENT};
+use samples::{Random, MAX_UNITARY_COUNT};
+
+use crate::call::Call;
+use crate::judge::Judge;
+
+use damages::{BYTE_CHANGES, LENGTH_CHANGES, UNITARY_CHANGES};
+
+const INPUTS: usize = 20_000;
+
+/// Runs the call that reads unitaries.
+pub fn run(judge: &mut Judge) {
+    cases::run(judge);
+    let mut random = Random::new(11);
+    for clifford in samples::cliffords() {
+        let unitary = samples::unitary_of_form(&mut random, &clifford);
+        let unitary = unitary.expect("a Clifford has a small exponent");
+        let bytes = samples::unitary_bytes(&unitary);
+        judge.run_with(Call::UnitaryToGates, &bytes, LETTERS_PER_COUNT);
+    }
+    for _ in 0..INPUTS / 2 {
+        let accepted = samples::unitary_bytes(&accepted(&mut random));
+        judge.run(Call::UnitaryToGates, &accepted);
+        judge.run(Call::UnitaryToGates, &damaged(&mut random));
+    }
+}
+
+/// An accepted unitary, at its least or a larger exponent.
+fn accepted(random: &mut Random) -> Unitary {
+    let count = random.below(usize::from(MAX_UNITARY_COUNT) + 1) as u8;
+    let unitary = match random.below(8) {
+        0 => samples::unitary(random, count, count.div_ceil(2)),
+        1 | 2 => by_loose(random),
+        _ => samples::unitary(random, count, MAX_EXPONENT),
+    };
+    if random.chance(2) {
+        return unitary;
+    }
+    samples::inflated_unitary(random, &unitary)
+}
+
+/// A unitary of a form whose L is drawn first.
+fn by_loose(random: &mut Random) -> Unitary {
+    loop {
+        let count = random.below(usize::from(MAX_UNITARY_COUNT) + 1) as u8;
+        let form = samples::operator_by_loose(random, count);
+        if let Some(unitary) = samples::unitary_of_form(random, &form) {
+            return unitary;
+        }
+    }
+}
+
+/// The bytes of a unitary with one change or more.
+fn damaged(random: &mut Random) -> Vec<u8> {
+    let [of_unitary, of_bytes, of_length] = mixture(random);
+    let mut unitary = accepted(random);
+    for _ in 0..of_unitary {
+        random.pick(&UNITARY_CHANGES)(random, &mut unitary);
+    }
+    let mut bytes = samples::unitary_bytes(&unitary);
+    for _ in 0..of_bytes {
+        random.pick(&BYTE_CHANGES)(random, &mut bytes);
+    }
+    for _ in 0..of_length {
+        random.pick(&LENGTH_CHANGES)(random, &mut bytes);
+    }
+    bytes
+}
+
+/// How many changes there are: of the unitary, of bytes, of the length.
+fn mixture(random: &mut Random) -> [usize; 3] {
+    match random.below(20) {
+        0..=9 => [1, 0, 0],
+        10..=12 => [2, 0, 0],
+        13 | 14 => [0, 1, 0],
+        15 => [0, 2, 0],
+        16 => [0, 0, 1],
+        17 => [1, 1, 0],
+        18 => [1, 0, 1],
+        _ => [1, 1, 1],
+    }
+}
