@@ -2,3 +2,4 @@
 pub mod Trials
 pub mod Texts
 pub mod Lists
+pub mod Unitaries
