@@ -43,8 +43,8 @@ pub fn times(a: Gaussian, b: Gaussian) -> Gaussian
 
 // Wrong, and refused: the number itself; its negative.
 pub fn conjugate(a: Gaussian) -> Gaussian
-    requires { ⌜ Within (2 ^ 60) a ⌝ }
-    ensures { λ r. ⌜ r ≡ conj a ⌝ }
+    requires { ⌜ Within (2 ^ 15) a ⌝ }
+    ensures { λ r. ⌜ (r ≡ conj a) × Within (2 ^ 15) r ⌝ }
 {
     Gaussian {
         re: a.re,

@@ -3,9 +3,9 @@
 use gaussian::Gaussian;
 ghost use mathlib.Core.Path.{_≡_};
 ghost use Prim.Native.Nat.{_-_, _^_, _<_, _≤_};
-ghost use Rattle.matrix.specs.Matrix.{entry};
-ghost use Rattle.matrix.specs.Array.{Bounded};
-ghost use Rattle.gaussian.specs.Gaussian.{_⊗_, product};
+ghost use lib.IntN.{pos};
+ghost use Rattle.matrix.specs.Integer.{equals};
+ghost use Rattle.gaussian.specs.Gaussian.{Within, _⊗_, product};
 ghost use Rattle.unitary.specs.Unitary.{Unitary, quotient, matrixOf};
 ghost use Rattle.unitary.specs.Form.{rowAt, columnAt, compound, basis, sixForm};
 ghost use Rattle.unitary_file.specs.Unitary.{Narrow};
@@ -18,14 +18,14 @@ const COLUMNS: [usize; 6] = [1, 2, 3, 2, 3, 3];
 
 fn row_at(p: usize) -> usize
     requires { ⌜ p < 6 ⌝ }
-    ensures { λ r. ⌜ r ≡ rowAt p ⌝ }
+    ensures { λ r. ⌜ (r ≡ rowAt p) × (r < 4) ⌝ }
 {
     ROWS[p]
 }
 
 fn column_at(p: usize) -> usize
     requires { ⌜ p < 6 ⌝ }
-    ensures { λ r. ⌜ r ≡ columnAt p ⌝ }
+    ensures { λ r. ⌜ (r ≡ columnAt p) × (r < 4) ⌝ }
 {
     COLUMNS[p]
 }
@@ -33,7 +33,7 @@ fn column_at(p: usize) -> usize
 // The product of entries (a, c) and (b, d).
 fn product_of(n: &[i64; 32], a: usize, c: usize, b: usize, d: usize) -> Gaussian
     requires { ⌜ (a < 4) × (c < 4) × (b < 4) × (d < 4) × Narrow (now n) ⌝ }
-    ensures { λ r. ⌜ r ≡ matrixOf (now (n .entry)) a c ⊗ matrixOf (now (n .entry)) b d ⌝ }
+    ensures { λ r. ⌜ (r ≡ matrixOf (now (n .entry)) a c ⊗ matrixOf (now (n .entry)) b d) × Within (2 ^ 31) r ⌝ }
 {
     let x = unitary_file::entry_of(n, a, c);
     gaussian::times(x, unitary_file::entry_of(n, b, d))
@@ -43,7 +43,7 @@ fn product_of(n: &[i64; 32], a: usize, c: usize, b: usize, d: usize) -> Gaussian
 // Wrong, and refused: the transpose's; the other product taken off.
 fn minor(n: &[i64; 32], p: usize, q: usize) -> Gaussian
     requires { ⌜ (p < 6) × (q < 6) × Narrow (now n) ⌝ }
-    ensures { λ r. ⌜ r ≡ compound (matrixOf (now (n .entry))) p q ⌝ }
+    ensures { λ r. ⌜ (r ≡ compound (matrixOf (now (n .entry))) p q) × Within (2 ^ 32) r ⌝ }
 {
     let a = row_at(p);
     let b = column_at(p);
@@ -67,14 +67,14 @@ const UPPER_IM: [i64; 6] = [-1, 0, 1, 0, 1, 0];
 
 fn place_of(c: usize) -> usize
     requires { ⌜ c < 6 ⌝ }
-    ensures { λ r. ⌜ r ≡ placeOf c ⌝ }
+    ensures { λ r. ⌜ (r ≡ placeOf c) × (r < 3) ⌝ }
 {
     PLACES[c]
 }
 
 fn lower(c: usize) -> Gaussian
     requires { ⌜ c < 6 ⌝ }
-    ensures { λ r. ⌜ r ≡ basis (placeOf c) c ⌝ }
+    ensures { λ r. ⌜ (r ≡ basis (placeOf c) c) × Within 1 r ⌝ }
 {
     Gaussian {
         re: LOWER_RE[c],
@@ -84,7 +84,7 @@ fn lower(c: usize) -> Gaussian
 
 fn upper(c: usize) -> Gaussian
     requires { ⌜ c < 6 ⌝ }
-    ensures { λ r. ⌜ r ≡ basis (5 - placeOf c) c ⌝ }
+    ensures { λ r. ⌜ (r ≡ basis (5 - placeOf c) c) × Within 1 r ⌝ }
 {
     Gaussian {
         re: UPPER_RE[c],
@@ -95,7 +95,7 @@ fn upper(c: usize) -> Gaussian
 // The minors times the basis: two of the six products count.
 fn half_entry(n: &[i64; 32], p: usize, c: usize) -> Gaussian
     requires { ⌜ (p < 6) × (c < 6) × Narrow (now n) ⌝ }
-    ensures { λ r. ⌜ r ≡ product 6 (compound (matrixOf (now (n .entry)))) basis p c ⌝ }
+    ensures { λ r. ⌜ (r ≡ product 6 (compound (matrixOf (now (n .entry)))) basis p c) × Within (2 ^ 34) r ⌝ }
 {
     let q = place_of(c);
     let left = gaussian::times(lower(c), minor(n, p, q));
@@ -107,7 +107,7 @@ fn half_entry(n: &[i64; 32], p: usize, c: usize) -> Gaussian
 // Wrong, and refused: the basis on the left with no conjugate; the form's transpose.
 fn form_entry(n: &[i64; 32], r: usize, c: usize) -> Gaussian
     requires { ⌜ (r < 6) × (c < 6) × Narrow (now n) ⌝ }
-    ensures { λ x. ⌜ x ≡ sixForm (matrixOf (now (n .entry))) r c ⌝ }
+    ensures { λ x. ⌜ (x ≡ sixForm (matrixOf (now (n .entry))) r c) × Within (2 ^ 36) x ⌝ }
 {
     let p = place_of(r);
     let left = gaussian::times(gaussian::conjugate(lower(r)), half_entry(n, p, c));
@@ -139,14 +139,21 @@ fn parts_of(n: &[i64; 32]) -> Parts
     Parts { re, im }
 }
 
+// Wrong, and refused: 1 in place of 0; true for every number.
+fn equals_zero(x: i64) -> bool
+    ensures { λ r. ⌜ r ≡ equals x (pos 0) ⌝ }
+{
+    x == 0
+}
+
 // Whether all numbers are 0.
+// Wrong, and refused: the first number alone; all but the last.
 fn is_zero(m: &[i64; 36]) -> bool
-    requires { ⌜ Bounded (2 ^ 36) (entry (now m)) ⌝ }
     ensures { λ r. ⌜ r ≡ isZero (now (m .entry)) ⌝ }
 {
     let mut i = 0usize;
     while i < 36 {
-        if m[i] != 0 {
+        if !equals_zero(m[i]) {
             return false;
         }
         i += 1;

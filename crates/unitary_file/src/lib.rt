@@ -2,9 +2,9 @@
 
 use gaussian::Gaussian;
 ghost use mathlib.Core.Path.{_≡_};
-ghost use Prim.Native.Nat.{_<_, _≤_};
+ghost use Prim.Native.Nat.{_^_, _<_, _≤_};
 ghost use lib.ListN.{length};
-ghost use Rattle.gaussian.specs.Gaussian.{normOf, product, adjoint};
+ghost use Rattle.gaussian.specs.Gaussian.{Within, conj, normOf, product, adjoint};
 ghost use Rattle.unitary.specs.Unitary.{matrixOf};
 ghost use Rattle.unitary_file.specs.Unitary.{Narrow, ReadAs, isSmall, isUnitary, unitaryAt, unitaryEntries, unitaryLength};
 
@@ -49,8 +49,8 @@ fn decode(bytes: &[u8]) -> [i64; 32]
 // Entry (i, j).
 // Wrong, and refused: the transpose; the parts exchanged.
 pub fn entry_of(n: &[i64; 32], i: usize, j: usize) -> Gaussian
-    requires { ⌜ (i < 4) × (j < 4) ⌝ }
-    ensures { λ r. ⌜ r ≡ matrixOf (now (n .entry)) i j ⌝ }
+    requires { ⌜ (i < 4) × (j < 4) × Narrow (now n) ⌝ }
+    ensures { λ r. ⌜ (r ≡ matrixOf (now (n .entry)) i j) × Within (2 ^ 15) r ⌝ }
 {
     Gaussian {
         re: n[8 * i + 2 * j],
@@ -84,8 +84,17 @@ fn is_small(k: u8, n: &[i64; 32]) -> bool
     true
 }
 
+// The conjugate of entry (i, j).
+// Wrong, and refused: the entry itself, with no conjugate; the conjugate of the transpose's.
+fn conjugate_of(n: &[i64; 32], i: usize, j: usize) -> Gaussian
+    requires { ⌜ (i < 4) × (j < 4) × Narrow (now n) ⌝ }
+    ensures { λ r. ⌜ (r ≡ conj (matrixOf (now (n .entry)) i j)) × Within (2 ^ 15) r ⌝ }
+{
+    gaussian::conjugate(entry_of(n, i, j))
+}
+
 // Row i times the conjugate of row j.
-// Wrong, and refused: row j as it is, with no conjugate; column j in place of row j.
+// Wrong, and refused: the rows exchanged; a column in place of row j.
 fn row_product(n: &[i64; 32], i: usize, j: usize) -> Gaussian
     requires { ⌜ (i < 4) × (j < 4) × Narrow (now n) ⌝ }
     ensures { λ r. ⌜ r ≡ product 4 (matrixOf (now (n .entry))) (adjoint (matrixOf (now (n .entry)))) i j ⌝ }
@@ -93,8 +102,9 @@ fn row_product(n: &[i64; 32], i: usize, j: usize) -> Gaussian
     let mut sum = Gaussian { re: 0, im: 0 };
     let mut c = 0usize;
     while c < 4 {
-        let other = gaussian::conjugate(entry_of(n, j, c));
-        sum = gaussian::plus(sum, gaussian::times(entry_of(n, i, c), other));
+        let x = entry_of(n, i, c);
+        let y = conjugate_of(n, j, c);
+        sum = gaussian::plus(sum, gaussian::times(x, y));
         c += 1;
     }
     sum

@@ -5,7 +5,6 @@ use mathlib.Core.Path.{_≡_}
 use Prim.Native.Nat.{ℕ, _+_, _*_, _<_, _≤_}
 use lib.ListN.{length}
 use Rattle.matrix.specs.Matrix.{listed}
-use Rattle.matrix.specs.Operator.{Operator}
 use Rattle.reduction.specs.Reduction as reduction
 use Rattle.file.specs.File.{fileExponent, written}
 use Rattle.letter.specs.declared.Gate.{Gate}

@@ -1,21 +1,17 @@
 -- Each way out is a phase of the form.
-use mathlib.Core.Path.{_≡_, sym, ap, subst, _∙_}
+use mathlib.Core.Path.{_≡_, sym, ap, _∙_}
 use mathlib.Core.Bool.{true, false}
 use mathlib.Core.List.{List}
-use Prim.Native.Nat.{ℕ, _+_, _*_, _^_}
+use Prim.Native.Nat.{ℕ, _+_, _*_}
 use native.Mathlib.Omega.{arith}
 use lib.IntN.{ℤ}
 use borrow.Author.Needs.{needs}
 use denote.Ref.{now}
-use Rattle.matrix.specs.Matrix.{entry, listed}
-use Rattle.matrix.specs.Array.{Bounded}
-use Rattle.matrix.specs.Laws.Array.{length-listed, bounded-listed}
+use Rattle.matrix.specs.Laws.Array.{length-listed}
 use Rattle.unitary.specs.Unitary.{Unitary, quotient, matrixOf}
-use Rattle.unitary.specs.Form.{sixForm}
-use Rattle.unitary_file.specs.Unitary.{Narrow}
 use Rattle.six_form.specs.declared.Parts.{Parts}
 use Rattle.six_form.specs.Places.{isZero, PartsOf, FormAs}
-use Rattle.six_form.specs.Laws.Form.{imaginary-form, real-form, diagonal-form, parts-bounded}
+use Rattle.six_form.specs.Laws.Form.{imaginary-form, real-form, diagonal-form}
 use Rattle.six_form.proofs.form_of.Statement.{statement}
 use Rattle.six_form.proofs.form_of.Tie as tie
 
@@ -33,10 +29,7 @@ parts-of-requires : tie.Need-parts-of-requires
 parts-of-requires c κs = search needs
 
 is-zero-requires : tie.Need-is-zero-requires
-is-zero-requires c κs =
-    let p = c .before .before .before in
-    let s = p .before in
-    subst (λ m. Bounded (2 ^ 36) (entry m)) (sym (p .parts-of .ensures .re)) (bounded-listed (2 ^ 36) _ (parts-bounded (now (s .args .n)) (s .pre .1) .0))
+is-zero-requires c κs = search needs
 
 mul-t8 : tie.Need-mul-t8
 mul-t8 c = search needs
@@ -51,10 +44,7 @@ returns c =
     imaginary (s .args .k) (now (s .args .n)) (s .pre .2) (p .parts-of .result) (p .parts-of .ensures) (sym (c .before .is-zero .ensures) ∙ c .if1 .taken)
 
 is-zero-requires-2 : tie.Need-is-zero-requires-2
-is-zero-requires-2 c κs =
-    let p = c .before .before .before .before .before .before in
-    let s = p .before in
-    subst (λ m. Bounded (2 ^ 36) (entry m)) (sym (p .parts-of .ensures .im)) (bounded-listed (2 ^ 36) _ (parts-bounded (now (s .args .n)) (s .pre .1) .1))
+is-zero-requires-2 c κs = search needs
 
 mul-t13 : tie.Need-mul-t13
 mul-t13 c = search needs

@@ -1,16 +1,17 @@
 -- The table is the basis.
-use mathlib.Core.Path.{_≡_, refl}
+use mathlib.Core.Path.{_≡_, refl, sym, subst}
 use mathlib.Core.List.{List, [], _∷_}
-use Prim.Native.Nat.{ℕ, zero, suc, _-_, _<_}
+use Prim.Native.Nat.{ℕ, zero, suc, _<_}
 use native.Mathlib.Omega.{arith}
 use lib.IntN.{ℤ, pos, negsuc}
 use lib.ListN.{getD}
 use mir.Syntax.{w64}
 use mir.Val.{toZ, ofZ}
 use borrow.Author.Needs.{needs}
-use Rattle.gaussian.specs.Gaussian.{gaussian}
+use Rattle.gaussian.specs.Gaussian.{gaussian, Within}
 use Rattle.unitary.specs.Form.{basis}
 use Rattle.six_form.specs.Places.{placeOf}
+use Rattle.six_form.specs.Laws.Places.{place-lt, basis-within}
 use Rattle.six_form.proofs.lower.Statement.{statement}
 use Rattle.six_form.proofs.lower.Tie as tie
 
@@ -40,7 +41,11 @@ array-copy-out-t11 : tie.Need-array-copy-out-t11
 array-copy-out-t11 c = search needs
 
 returns : tie.Need-returns
-returns c = table (c .before .before .args .c) (c .before .before .pre)
+returns c =
+    let s = c .before .before in
+    let l = place-lt (s .args .c) in
+    let e = table (s .args .c) (s .pre) in
+    (e, subst (Within 1) (sym e) (basis-within (placeOf (s .args .c)) (s .args .c) (omega arith) (s .pre)))
 
 pub lower-spec : {M : Type 1} → statement M
 lower-spec = tie.close (tie.spec mul-t3 array-copy-out-t6 mul-t8 array-copy-out-t11 returns)

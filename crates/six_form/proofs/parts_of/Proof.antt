@@ -1,19 +1,16 @@
 -- The invariant: the parts before i are those of the form.
-use mathlib.Core.Path.{_≡_, refl, sym, ap, subst, _∙_}
+use mathlib.Core.Path.{_≡_, refl, ap, _∙_}
 use mathlib.Core.List.{List}
-use Prim.Native.Nat.{ℕ, _-_, _/_, _%_, _^_, _≤_}
+use Prim.Native.Nat.{ℕ, _-_, _/_, _%_, _≤_}
 use native.Mathlib.Omega.{arith}
 use lib.Dec.{lit<}
 use lib.IntN.{ℤ, pos}
 use borrow.Author.Needs.{needs}
-use denote.Ref.{now}
 use Rattle.matrix.specs.Matrix.{listed}
 use Rattle.matrix.specs.Laws.Range.{Filled, filled-none, filled-more, filled-all}
 use Rattle.matrix.specs.Laws.Machine.{stored}
 use Rattle.unitary.specs.Unitary.{matrixOf}
 use Rattle.unitary.specs.Form.{sixForm}
-use Rattle.gaussian.specs.Gaussian.{Within}
-use Rattle.six_form.specs.Laws.Places.{form-within}
 use Rattle.six_form.proofs.parts_of.Statement.{statement}
 use Rattle.six_form.proofs.parts_of.Tie as tie
 
@@ -56,12 +53,11 @@ loop-less c = search needs
 loop-again : tie.Need-loop-again Inv-loop μ-loop
 loop-again c =
     let l = c .before .before .before .before in
-    let s = l .before in
     let x = c .before .before .form-entry in
-    let h = subst (Within (2 ^ 36)) (sym (x .ensures)) (form-within (now (s .args .n)) (s .pre) (l .loop .i / 6) (l .loop .i % 6) (omega arith) (omega arith)) in (
+    let h = x .ensures .1 in (
       search needs,
-      filled-more _ _ _ (l .loop .i) (l .loop .re) _ (l .loop .inv .1) (omega arith) (stored (x .result .re) (h .re) (lit< tt) .is ∙ ap (λ z. z .re) (x .ensures)),
-      filled-more _ _ _ (l .loop .i) (l .loop .im) _ (l .loop .inv .2) (omega arith) (stored (x .result .im) (h .im) (lit< tt) .is ∙ ap (λ z. z .im) (x .ensures)),
+      filled-more _ _ _ (l .loop .i) (l .loop .re) _ (l .loop .inv .1) (omega arith) (stored (x .result .re) (h .re) (lit< tt) .is ∙ ap (λ z. z .re) (x .ensures .0)),
+      filled-more _ _ _ (l .loop .i) (l .loop .im) _ (l .loop .inv .2) (omega arith) (stored (x .result .im) (h .im) (lit< tt) .is ∙ ap (λ z. z .im) (x .ensures .0)),
     )
 
 returns : tie.Need-returns Inv-loop μ-loop

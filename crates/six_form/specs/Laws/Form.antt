@@ -3,14 +3,13 @@ use mathlib.Core.Path.{_≡_, refl, sym, ap, _∙_}
 use mathlib.Core.Bool.{Bool, true, false, cond}
 use mathlib.Core.Logic.{inl, inr}
 use mathlib.Core.List.{List, [], _∷_}
-use Prim.Native.Nat.{ℕ, zero, suc, _+_, _*_, _/_, _%_, _^_, _<_}
+use Prim.Native.Nat.{ℕ, zero, suc, _+_, _*_, _/_, _%_, _<_}
 use native.Mathlib.Omega.{arith}
-use lib.IntN.{ℤ, pos, negsuc, _*ℤ_}
+use lib.IntN.{ℤ, pos, _*ℤ_}
 use lib.ListN.{getD}
 use Rattle.matrix.specs.Integer.{equals}
 use Rattle.matrix.specs.Matrix.{Matrix, entry, listed}
-use Rattle.matrix.specs.Array.{Bounded}
-use Rattle.matrix.specs.Operator.{operator, SameOperator, SameUpToSign}
+use Rattle.matrix.specs.Operator.{operator, SameUpToSign}
 use Rattle.matrix.specs.Laws.Integer.{equals-eq, equals-yes, *ℤ-cancel-l, pos-nz}
 use Rattle.matrix.specs.Laws.Range.{every-sound, every-complete}
 use Rattle.matrix.specs.Laws.Ring.{var, num, _:+_, _:*_, ring}
@@ -18,14 +17,12 @@ use Rattle.matrix.specs.Laws.Operator.{same-operator-sym}
 use Rattle.matrix.specs.Laws.Array.{entry-flat, entry-listed, listed-same}
 use Rattle.clifford.specs.Laws.Sign.{up-sym, up-trans}
 use Rattle.gaussian.specs.Gaussian.{power, _⊗_}
-use Rattle.unitary.specs.Unitary.{Quotient, Unitary, matrixOf}
+use Rattle.unitary.specs.Unitary.{Quotient, Unitary}
 use Rattle.unitary.specs.Form.{sixForm, formAt, Real, turnOf, formOf}
-use Rattle.unitary.specs.Laws.Part.{realPart, imaginaryPart, turn-0, turn-1, turn-2, turn-3}
+use Rattle.unitary.specs.Laws.Part.{turn-0, turn-1, turn-2, turn-3}
 use Rattle.unitary.specs.Laws.Turn.{two-turns}
 use Rattle.unitary.specs.Laws.Exact.{turn-real, turn-small, real-or-negative}
-use Rattle.unitary_file.specs.Unitary.{Narrow}
 use Rattle.six_form.specs.Places.{isZero}
-use Rattle.six_form.specs.Laws.Places.{form-within}
 
 -- ---- whether all numbers are 0
 
@@ -98,7 +95,3 @@ module _ (U : Quotient) (o : Unitary U) where
       go (suc (suc zero)) l h = absurd (clash y (zero-complete re (zero-2 h)))
       go (suc (suc (suc zero))) l h = by-turn 3 h (up-sym (inr (turn-3 U h)))
       go (suc (suc (suc (suc t)))) l h = absurd (omega arith)
-
--- the numbers of the form's parts are far from overflow
-pub parts-bounded : (n : List ℤ) → Narrow n → Bounded (2 ^ 36) (λ r c. sixForm (matrixOf n) r c .re) × Bounded (2 ^ 36) (λ r c. sixForm (matrixOf n) r c .im)
-parts-bounded n h = (record { size = λ r c hr hc. form-within n h r c hr hc .re }, record { size = λ r c hr hc. form-within n h r c hr hc .im })

@@ -1,25 +1,19 @@
 -- The two entries of each basis matrix are enough, and how large the form's entries are.
-use mathlib.Core.Path.{_≡_, refl, sym, ap, ap₂, _∙_}
+use mathlib.Core.Path.{_≡_, refl, ap, ap₂, _∙_}
 use mathlib.Core.Bool.{Bool, true, _||_, _&&_}
 use mathlib.Core.Logic.{_≢_}
-use Prim.Native.Nat.{ℕ, zero, suc, _+_, _*_, _-_, _^_, _<_, _≤_}
+use Prim.Native.Nat.{ℕ, zero, suc, _-_, _<_}
 use native.Mathlib.Omega.{arith}
 use lib.Dec.{eqb, leb}
-use lib.IntN.{ℤ, pos, natAbs}
-use mathlib.Core.List.{List}
+use lib.IntN.{pos, natAbs}
 use borrow.Author.Tests.{ne-eqb, leb-true}
 use Rattle.matrix.specs.Range.{every, everyFrom}
 use Rattle.matrix.specs.Laws.Range.{every-sound}
 use Rattle.matrix.specs.Laws.Test.{and-left, and-right}
-use Rattle.gaussian.specs.declared.Gaussian.{Gaussian}
-use Rattle.gaussian.specs.Gaussian.{real, Within, Matrix, _⊕_, _⊗_, conj, sum, product, adjoint, equals}
+use Rattle.gaussian.specs.Gaussian.{real, Within, Matrix, _⊕_, _⊗_, conj, product, adjoint, equals}
 use Rattle.gaussian.specs.Laws.Gaussian.{⊗-comm, ⊗-zero, zero-⊗, conj-real}
-use Rattle.gaussian.specs.Laws.Size.{within-conj, within-⊕, within-⊖, within-⊗}
 use Rattle.gaussian.specs.Laws.Matrix.{equals-sound, sum-two}
-use Rattle.unitary.specs.Unitary.{matrixOf}
-use Rattle.unitary.specs.Form.{rowAt, columnAt, basis, compound, sixForm}
-use Rattle.unitary_file.specs.Unitary.{Narrow}
-use Rattle.unitary_file.specs.Laws.Unitary.{narrow-within}
+use Rattle.unitary.specs.Form.{basis}
 use Rattle.six_form.specs.Places.{placeOf}
 
 -- elsewhere a basis matrix has nothing
@@ -72,30 +66,3 @@ unfolding isUnit
 basis-within p c hp hc =
     let t = every-sound 6 (isUnit p) (every-sound 6 (λ p. every 6 (isUnit p)) all-units p hp) c hc in
     record { re = leb-true _ _ (and-left (leb (natAbs (basis p c .re)) 1) _ t); im = leb-true _ _ (and-right (leb (natAbs (basis p c .re)) 1) _ t) }
-
-module _ (n : List ℤ) (h : Narrow n) where
-  abbrev N : Matrix
-  N = matrixOf n
-
-  pub product-within : (a c b d : ℕ) → Within (2 ^ 31) (N a c ⊗ N b d)
-  product-within a c b d = within-⊗ (narrow-within n h a c) (narrow-within n h b d)
-
-  pub minor-within : (p q : ℕ) → Within (2 ^ 32) (compound N p q)
-  unfolding compound
-  minor-within p q = within-⊖ (product-within (rowAt p) (rowAt q) (columnAt p) (columnAt q)) (product-within (rowAt p) (columnAt q) (columnAt p) (rowAt q))
-
-  pub half-term-within : (p q c : ℕ) → q < 6 → c < 6 → Within (2 ^ 33) (basis q c ⊗ compound N p q)
-  half-term-within p q c hq hc = within-⊗ (basis-within q c hq hc) (minor-within p q)
-
-  pub half-within : (p c : ℕ) → c < 6 → Within (2 ^ 34) (product 6 (compound N) basis p c)
-  half-within p c hc =
-      let l = place-lt c in
-      rw (half-entry (compound N) p c hc) (within-⊕ (half-term-within p (placeOf c) c (omega arith) hc) (half-term-within p (5 - placeOf c) c (omega arith) hc))
-
-  pub term-within : (q r c : ℕ) → q < 6 → r < 6 → c < 6 → Within (2 ^ 35) (conj (basis q r) ⊗ product 6 (compound N) basis q c)
-  term-within q r c hq hr hc = within-⊗ (within-conj (basis-within q r hq hr)) (half-within q c hc)
-
-  pub form-within : (r c : ℕ) → r < 6 → c < 6 → Within (2 ^ 36) (sixForm N r c)
-  form-within r c hr hc =
-      let l = place-lt r in
-      rw (whole-entry (product 6 (compound N) basis) r c hr) (within-⊕ (term-within (placeOf r) r c (omega arith) hr hc) (term-within (5 - placeOf r) r c (omega arith) hr hc))

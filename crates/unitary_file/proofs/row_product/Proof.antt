@@ -1,15 +1,15 @@
 -- The invariant: `sum` is the sum of the first c products.
-use mathlib.Core.Path.{_≡_, sym, ap, ap₂, subst, _∙_}
+use mathlib.Core.Path.{_≡_, sym, ap₂, subst, _∙_}
 use Prim.Native.Nat.{_-_, _^_, _≤_}
 use native.Mathlib.Numerals.{add-one}
 use native.Mathlib.Omega.{arith}
 use borrow.Author.Needs.{needs}
 use denote.Ref.{now}
 use Rattle.gaussian.specs.Gaussian as gaussian
-use Rattle.gaussian.specs.Gaussian.{Within, _⊕_, _⊗_, conj, adjoint}
-use Rattle.gaussian.specs.Laws.Size.{within-more, within-conj}
+use Rattle.gaussian.specs.Gaussian.{Within, _⊕_, _⊗_, adjoint}
+use Rattle.gaussian.specs.Laws.Size.{within-more, within-⊗}
 use Rattle.unitary.specs.Unitary.{matrixOf}
-use Rattle.unitary_file.specs.Laws.Unitary.{narrow-within, term-within, terms-within}
+use Rattle.unitary_file.specs.Laws.Unitary.{terms-within}
 use Rattle.unitary_file.proofs.row_product.Statement.{statement}
 use Rattle.unitary_file.proofs.row_product.Tie as tie
 
@@ -26,30 +26,18 @@ loop-holds c = search needs
 entry-of-requires : tie.Need-entry-of-requires Inv-loop μ-loop
 entry-of-requires c κs = search needs
 
-conjugate-requires : tie.Need-conjugate-requires Inv-loop μ-loop
-conjugate-requires c κs =
-    let a = c .before .before .before in
-    within-more (omega arith) (subst (Within (2 ^ 15)) (sym (c .entry-of .ensures)) (narrow-within (now (a .args .n)) (a .pre .2) (a .args .j) (c .before .before .loop .c)))
-
-entry-of-requires-2 : tie.Need-entry-of-requires-2 Inv-loop μ-loop
-entry-of-requires-2 c κs = search needs
+conjugate-of-requires : tie.Need-conjugate-of-requires Inv-loop μ-loop
+conjugate-of-requires c κs = search needs
 
 times-requires : tie.Need-times-requires Inv-loop μ-loop
-times-requires c κs =
-    let l = c .before .before .before .before in
-    let a = l .before in
-    let e = c .before .conjugate .ensures ∙ ap conj (c .before .before .entry-of .ensures) in (
-      subst (Within (2 ^ 15)) (sym (c .entry-of2 .ensures)) (narrow-within (now (a .args .n)) (a .pre .2) (a .args .i) (l .loop .c)),
-      within-more (omega arith) (subst (Within (2 ^ 15)) (sym e) (within-conj (narrow-within (now (a .args .n)) (a .pre .2) (a .args .j) (l .loop .c)))),
-    )
+times-requires c κs = (c .before .entry-of .ensures .1, within-more (omega arith) (c .conjugate-of .ensures .1))
 
 plus-requires : tie.Need-plus-requires Inv-loop μ-loop
 plus-requires c κs =
-    let l = c .before .before .before .before .before in
-    let a = l .before in
-    let e = c .times .ensures ∙ ap₂ (λ x y. x ⊗ y) (c .before .entry-of2 .ensures) (c .before .before .conjugate .ensures ∙ ap conj (c .before .before .before .entry-of .ensures)) in (
+    let l = c .before .before .before .before in
+    let a = l .before in (
       within-more (omega arith) (subst (Within (2 ^ 33)) (sym (l .loop .inv .1)) (terms-within (now (a .args .n)) (a .pre .2) (a .args .i) (a .args .j) (l .loop .c) (l .loop .inv .0))),
-      within-more (omega arith) (subst (Within (2 ^ 31)) (sym e) (term-within (now (a .args .n)) (a .pre .2) (a .args .i) (a .args .j) (l .loop .c))),
+      within-more (omega arith) (subst (Within (2 ^ 31)) (sym (c .times .ensures)) (within-⊗ (c .before .before .entry-of .ensures .1) (c .before .conjugate-of .ensures .1))),
     )
 
 add-c : tie.Need-add-c Inv-loop μ-loop
@@ -61,8 +49,8 @@ loop-less c = search needs
 loop-again : tie.Need-loop-again Inv-loop μ-loop
 unfolding gaussian.sum
 loop-again c =
-    let l = c .before .before .before .before .before .before in
-    let e = c .before .times .ensures ∙ ap₂ (λ x y. x ⊗ y) (c .before .before .entry-of2 .ensures) (c .before .before .before .conjugate .ensures ∙ ap conj (c .before .before .before .before .entry-of .ensures)) in
+    let l = c .before .before .before .before .before in
+    let e = c .before .times .ensures ∙ ap₂ (λ x y. x ⊗ y) (c .before .before .before .entry-of .ensures .0) (c .before .before .conjugate-of .ensures .0) in
     (search needs, rw add-one (c .plus .ensures ∙ ap₂ (λ x y. x ⊕ y) (l .loop .inv .1) e))
 
 returns : tie.Need-returns Inv-loop μ-loop
@@ -76,8 +64,7 @@ row-product-spec =
     μ-loop
     loop-holds
     entry-of-requires
-    conjugate-requires
-    entry-of-requires-2
+    conjugate-of-requires
     times-requires
     plus-requires
     add-c

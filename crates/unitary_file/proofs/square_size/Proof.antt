@@ -1,16 +1,14 @@
 -- Each square is at most 2^30.
-use mathlib.Core.Path.{sym, ap, subst, _∙_}
+use mathlib.Core.Path.{ap, _∙_}
 use Prim.Native.Nat.{_*_, _^_}
 use lib.Dec.{lit<}
 use lib.IntN.{ℤ, _*ℤ_}
 use borrow.Author.Needs.{needs}
-use denote.Ref.{now}
 use mir.Syntax.{w64}
 use mir.Val.{toZ, ofZ}
 use Rattle.matrix.specs.Laws.Machine.{Sized, fits, again, stored, add, mul}
 use Rattle.gaussian.specs.declared.Gaussian.{Gaussian}
 use Rattle.gaussian.specs.Gaussian.{Within, normOf}
-use Rattle.unitary_file.specs.Laws.Unitary.{narrow-within}
 use Rattle.unitary_file.proofs.square_size.Statement.{statement}
 use Rattle.unitary_file.proofs.square_size.Tie as tie
 
@@ -27,29 +25,25 @@ entry-of-requires c κs = search needs
 mul-result : tie.Need-mul-result
 mul-result c =
     let e = c .before .before in
-    let a = e .before in
-    fits (real-square (e .entry-of .result) (subst (Within (2 ^ 15)) (sym (e .entry-of .ensures)) (narrow-within (now (a .args .n)) (a .pre .2) (a .args .i) (a .args .j)))) (lit< tt)
+    fits (real-square (e .entry-of .result) (e .entry-of .ensures .1)) (lit< tt)
 
 mul-result-2 : tie.Need-mul-result-2
 mul-result-2 c =
     let e = c .before .before .before .before in
-    let a = e .before in
-    fits (imaginary-square (e .entry-of .result) (subst (Within (2 ^ 15)) (sym (e .entry-of .ensures)) (narrow-within (now (a .args .n)) (a .pre .2) (a .args .i) (a .args .j)))) (lit< tt)
+    fits (imaginary-square (e .entry-of .result) (e .entry-of .ensures .1)) (lit< tt)
 
 add-result : tie.Need-add-result
 add-result c =
     let e = c .before .before .before .before in
-    let a = e .before in
-    let h = subst (Within (2 ^ 15)) (sym (e .entry-of .ensures)) (narrow-within (now (a .args .n)) (a .pre .2) (a .args .i) (a .args .j)) in
+    let h = e .entry-of .ensures .1 in
     fits (add (again (real-square (e .entry-of .result) h) (lit< tt)) (again (imaginary-square (e .entry-of .result) h) (lit< tt))) (lit< tt)
 
 returns : tie.Need-returns
 unfolding normOf
 returns c =
     let e = c .before .before .before .before in
-    let a = e .before in
-    let h = subst (Within (2 ^ 15)) (sym (e .entry-of .ensures)) (narrow-within (now (a .args .n)) (a .pre .2) (a .args .i) (a .args .j)) in
-    again (add (again (real-square (e .entry-of .result) h) (lit< tt)) (again (imaginary-square (e .entry-of .result) h) (lit< tt))) (lit< tt) .is ∙ ap normOf (e .entry-of .ensures)
+    let h = e .entry-of .ensures .1 in
+    again (add (again (real-square (e .entry-of .result) h) (lit< tt)) (again (imaginary-square (e .entry-of .result) h) (lit< tt))) (lit< tt) .is ∙ ap normOf (e .entry-of .ensures .0)
 
 pub square-size-spec : {M : Type 1} → statement M
 square-size-spec = tie.close (tie.spec entry-of-requires mul-result mul-result-2 add-result returns)

@@ -1,20 +1,16 @@
 -- Every unitary has its list: that of its form of sign byte 0.
-use mathlib.Core.Path.{_≡_, refl, sym, ap, _∙_}
-use mathlib.Core.Logic.{inl}
-use mathlib.Core.List.{List}
+use mathlib.Core.Path.{_≡_, refl, sym, _∙_}
 use Prim.Native.Nat.{ℕ, _+_, _*_, _≤_}
 use native.Mathlib.Omega.{arith}
-use lib.IntN.{ℤ}
 use Rattle.matrix.specs.Matrix.{entry, listed}
-use Rattle.matrix.specs.Operator.{Operator, operator, SameUpToSign, Orthogonal, Proper}
+use Rattle.matrix.specs.Operator.{Operator, operator, Orthogonal, Proper}
 use Rattle.matrix.specs.Laws.Operator.{same-operator-sym, same-orthogonal, same-proper}
 use Rattle.matrix.specs.Laws.Array.{listed-same}
 use Rattle.clifford.specs.Laws.Sign.{up-to-sign}
-use Rattle.letter.specs.declared.Gate.{Gate}
 use Rattle.gate_list.specs.List.{signOfList}
 use Rattle.gate_list.specs.Promise.{ListFor}
 use Rattle.gate_list.specs.Laws.List.{list-of, same-list-for}
-use Rattle.unitary.specs.Unitary.{Quotient, Unitary, Gives}
+use Rattle.unitary.specs.Unitary.{Quotient, Unitary}
 use Rattle.unitary.specs.Form.{formOf}
 use Rattle.unitary.specs.Laws.Exact.{form, given}
 use Rattle.omega.specs.Modular.{powerOf}

@@ -1,7 +1,7 @@
 -- The normal form of an accepted unitary's form, as the code holds it, and the ways out of the call.
 use mathlib.Core.Path.{_≡_, refl, sym, ap, ap₂, subst, _∙_}
 use mathlib.Core.Bool.{true}
-use mathlib.Core.Logic.{_≢_, inl, inr, ⊎-elim}
+use mathlib.Core.Logic.{_≢_, inl, ⊎-elim}
 use mathlib.Core.List.{List, _++_, map}
 use Prim.Native.Nat.{ℕ, _+_, _*_, _-_, _<_, _≤_}
 use native.Mathlib.Nat.{zero-add}
@@ -10,18 +10,18 @@ use lib.ListN.{length, take, drop, replicate, length-append, length-map}
 use lib.Seq.{take-at}
 use Rattle.matrix.specs.Matrix.{entry, listed}
 use Rattle.matrix.specs.Operator.{operator, SameUpToSign, Orthogonal}
-use Rattle.matrix.specs.Laws.Operator.{same-operator-sym, same-operator-trans, same-orthogonal, negative-orthogonal}
+use Rattle.matrix.specs.Laws.Operator.{same-operator-sym, same-orthogonal, negative-orthogonal}
 use Rattle.matrix.specs.Laws.Array.{length-listed, least-form, listed-same}
 use Rattle.clifford.specs.Columns.{areColumnBytes}
 use Rattle.clifford.specs.Laws.Columns.{matrix-permutation, permutation-complete, columns-valid}
 use Rattle.clifford.specs.Laws.Sign.{up-trans}
 use Rattle.reduction.specs.Reduction.{count, taken, remaining}
-use Rattle.reduction.specs.Laws.NormalForm.{Numbers, Cutting, cutting}
+use Rattle.reduction.specs.Laws.NormalForm.{Numbers, cutting}
 use Rattle.file.specs.File.{written}
 use Rattle.letter.specs.declared.Gate.{Gate}
 use Rattle.letter.specs.Gate.{letter}
 use Rattle.letter.specs.Written.{Written}
-use Rattle.gate_list.specs.List.{gateList, listOf}
+use Rattle.gate_list.specs.List.{gateList}
 use Rattle.acceptance.specs.declared.Cut.{Cut}
 use Rattle.acceptance.specs.Cutting.{CutAs}
 use Rattle.operator.specs.Laws.Negative.{same-count, same-loose, same-letters}
@@ -34,7 +34,6 @@ use Rattle.unitary_file.specs.Unitary.{Narrow, ReadAs, largestUnitary, unitaryO
 use Rattle.unitary_file.specs.Laws.Accepted.{accepted}
 use Rattle.six_form.specs.declared.Form.{Form}
 use Rattle.six_form.specs.Places.{FormAs}
-use Rattle.unitary_gates.specs.declared.Synthesis.{Synthesis}
 use Rattle.unitary_gates.specs.declared.Synthesis.the-variants.{Letters, Refused}
 use Rattle.unitary_gates.specs.Promise.{formCount, formLoose, formList, UnitaryList, UnitaryPromise}
 use Rattle.unitary_gates.specs.Laws.List.{array-orthogonal, array-proper, unitary-list, form-count-small}
