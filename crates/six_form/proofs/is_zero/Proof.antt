@@ -41,7 +41,9 @@ equals-zero-requires c κs = search needs
 
 -- what the call of a turn answers
 tested : (c : tie.After-equals-zero Inv-loop μ-loop) → let l = c .before .before .before in c .equals-zero .result ≡ zero-at (now (l .before .args .m)) (l .loop .i)
-tested c = c .equals-zero .ensures ∙ ap (λ x. equals x (pos 0)) (kept (c .before .equals-zero-arg .given))
+tested c =
+    let l = c .before .before .before in
+    c .equals-zero .ensures ∙ ap (λ x. equals x (pos 0)) (kept {z = getD (now (l .before .args .m)) (l .loop .i) (pos 0)} (c .before .equals-zero-arg .given))
 
 returns : tie.Need-returns Inv-loop μ-loop
 returns c =
