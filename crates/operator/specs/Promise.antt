@@ -11,6 +11,7 @@ use Rattle.file.specs.File.{largestExponent, fileLength, fileExponent, fileMatr
 use Rattle.letter.specs.declared.Gate.{Gate}
 use Rattle.letter.specs.Gate.{letter}
 use Rattle.gate.specs.Product.{MultipliesTo}
+use Rattle.gate_list.specs.List.{listOf}
 use Rattle.gate_list.specs.Promise.{ListFor}
 use Rattle.operator.specs.declared.Cuts.{Cuts}
 use Rattle.operator.specs.declared.Cuts.the-variants.{Taken, Refused}
@@ -79,6 +80,8 @@ pub record Handed (b old new : List ℕ) (a : listed.Listed) (w : List Gate) (s 
   -- "the count comes with the number of letters written"; "beside the count, L" (document 02, P3); "its result says which" (P9)
   pub answer : a ≡ listed.the-variants.Letters (fileCount b) (length w) (fileLoose b) s
   pub list : ListFor (fileOperator b) (fileCount b) w s
+  -- the letters that the papers leave free follow from the normal form
+  pub form-list : w ≡ listOf (fileExponent b) (fileMatrix b)
 
 pub record GatesPromise (b old new : List ℕ) (a : listed.Listed) : Type 0 where
   pub refused : fileRefusal b ≢ 0 → (a ≡ listed.the-variants.Refused (fileRefusal b)) × (new ≡ old)

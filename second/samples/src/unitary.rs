@@ -10,8 +10,8 @@ use plain::words::write_gates;
 
 use crate::Random;
 
-/// The largest count of a unitary that is accepted: above the exponent 0, no count is more than twice the
-/// exponent.
+/// The largest count that unitaries are drawn of. That a larger one could be accepted is not ruled out here;
+/// none was found.
 pub const MAX_UNITARY_COUNT: u8 = 2 * MAX_EXPONENT;
 
 /// A unitary and its six-by-six form, up to sign.

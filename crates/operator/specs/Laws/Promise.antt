@@ -167,6 +167,7 @@ module _ (b old : List ℕ) (r : Cut) (c : CutOf b r) where
             buffer = v .buffer ∙ ap (λ x. map letter w ++ drop x old) (zero-add (length w) ∙ sym (length-map w letter));
             answer = let e = v .next ∙ zero-add (length w) in cc (t, e, y .loose);
             list = subst (ListFor (fileOperator b) (fileCount b) w) f g;
+            form-list = refl;
           },
         );
         exactly = none (y .accepted);

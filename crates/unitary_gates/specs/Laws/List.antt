@@ -1,15 +1,20 @@
 -- Every unitary has its list: that of its form of sign byte 0.
+use mathlib.Core.Logic.{inl}
+use mathlib.Core.List.{List}
 use mathlib.Core.Path.{_≡_, refl, sym, _∙_}
 use Prim.Native.Nat.{ℕ, _+_, _*_, _≤_}
 use native.Mathlib.Omega.{arith}
+use lib.IntN.{ℤ}
+use lib.ListN.{length}
 use Rattle.matrix.specs.Matrix.{entry, listed}
-use Rattle.matrix.specs.Operator.{Operator, operator, Orthogonal, Proper}
+use Rattle.matrix.specs.Operator.{Operator, operator, SameUpToSign, Orthogonal, Proper}
 use Rattle.matrix.specs.Laws.Operator.{same-operator-sym, same-orthogonal, same-proper}
-use Rattle.matrix.specs.Laws.Array.{listed-same}
-use Rattle.clifford.specs.Laws.Sign.{up-to-sign}
-use Rattle.gate_list.specs.List.{signOfList}
+use Rattle.matrix.specs.Laws.Array.{length-listed, listed-same}
+use Rattle.clifford.specs.Laws.Sign.{up-to-sign, up-trans}
+use Rattle.gate_list.specs.List.{listOf, signOfList}
 use Rattle.gate_list.specs.Promise.{ListFor}
 use Rattle.gate_list.specs.Laws.List.{list-of, same-list-for}
+use Rattle.operator.specs.Laws.Negative.{same-letters}
 use Rattle.unitary.specs.Unitary.{Quotient, Unitary}
 use Rattle.unitary.specs.Form.{formOf}
 use Rattle.unitary.specs.Laws.Exact.{form, given}
@@ -49,3 +54,8 @@ module _ (U : Quotient) (o : Unitary U) where
 
   pub form-count-small : formCount U ≤ 2 * U .exponent + 2
   form-count-small = form U o .exponent (formCount U) (form-list-for .least)
+
+  -- a file of a form, of either sign, has the same list
+  pub list-of-form : (k : ℕ) (m : List ℤ) → length m ≡ 36 → Orthogonal (operator k (entry m)) → SameUpToSign (operator k (entry m)) A → listOf k m ≡ formList U
+  list-of-form k m l p h =
+      same-letters k (A .exponent) m (listed (A .matrix)) l (length-listed (A .matrix)) p array-orthogonal array-proper (up-trans h (inl (listed-same A)))

@@ -24,7 +24,7 @@ use Rattle.letter.specs.Written.{Written}
 use Rattle.gate_list.specs.List.{gateList}
 use Rattle.acceptance.specs.declared.Cut.{Cut}
 use Rattle.acceptance.specs.Cutting.{CutAs}
-use Rattle.operator.specs.Laws.Negative.{same-count, same-loose, same-letters}
+use Rattle.operator.specs.Laws.Negative.{same-count, same-loose}
 use Rattle.unitary.specs.Unitary.{Quotient, quotient, Unitary, matrixOf}
 use Rattle.unitary.specs.Form.{formOf}
 use Rattle.unitary.specs.Laws.Exact.{form}
@@ -36,7 +36,7 @@ use Rattle.six_form.specs.declared.Form.{Form}
 use Rattle.six_form.specs.Places.{FormAs}
 use Rattle.unitary_gates.specs.declared.Synthesis.the-variants.{Letters, Refused}
 use Rattle.unitary_gates.specs.Promise.{formCount, formLoose, formList, UnitaryList, UnitaryPromise}
-use Rattle.unitary_gates.specs.Laws.List.{array-orthogonal, array-proper, unitary-list, form-count-small}
+use Rattle.unitary_gates.specs.Laws.List.{array-orthogonal, unitary-list, form-count-small, list-of-form}
 use Rattle.unitary_gates.specs.Laws.Exactly.{exactly-refused, exactly-accepted}
 
 -- ---- the form that was computed, and its normal form
@@ -72,7 +72,7 @@ module _ (U : Quotient) (o : Unitary U) (f : Form) (a : FormAs U f) where
         small = let h = least-form k m .below in let e = t .count refl in let s = a .small in omega arith;
         numbers = rw n (q .numbers);
         columns = rw (t .columns refl) (columns-valid _ (permutation-complete _ (matrix-permutation (entry (remaining k m)) (q .orthogonal))));
-        list = ap₂ gateList n (t .columns refl) ∙ same-letters k (formOf U .exponent) m (listed (formOf U .matrix)) (a .long) l computed-orthogonal (array-orthogonal U o) (array-proper U o) same;
+        list = ap₂ gateList n (t .columns refl) ∙ list-of-form U o k m (a .long) computed-orthogonal (a .same);
       }
 
 -- the letters that are written stand in the buffer
