@@ -10,6 +10,7 @@ pub struct Gaussian {
     pub im: i64,
 }
 
+// Wrong, and refused: the parts exchanged; the remainder of a part by 7.
 pub fn plus(a: Gaussian, b: Gaussian) -> Gaussian
     requires { ⌜ Within (2 ^ 60) a × Within (2 ^ 60) b ⌝ }
     ensures { λ r. ⌜ r ≡ a ⊕ b ⌝ }
@@ -20,6 +21,7 @@ pub fn plus(a: Gaussian, b: Gaussian) -> Gaussian
     }
 }
 
+// Wrong, and refused: the parts exchanged; the remainder of a part by 7.
 pub fn minus(a: Gaussian, b: Gaussian) -> Gaussian
     requires { ⌜ Within (2 ^ 60) a × Within (2 ^ 60) b ⌝ }
     ensures { λ r. ⌜ r ≡ a ⊖ b ⌝ }
@@ -30,7 +32,7 @@ pub fn minus(a: Gaussian, b: Gaussian) -> Gaussian
     }
 }
 
-// Wrong, and refused: the sum of the products for the real part; the imaginary parts left out of it.
+// Wrong, and refused: the product of the imaginary parts added; the remainder of a part by 7.
 pub fn times(a: Gaussian, b: Gaussian) -> Gaussian
     requires { ⌜ Within (2 ^ 15) a × Within (2 ^ 40) b ⌝ }
     ensures { λ r. ⌜ r ≡ a ⊗ b ⌝ }
@@ -41,7 +43,7 @@ pub fn times(a: Gaussian, b: Gaussian) -> Gaussian
     }
 }
 
-// Wrong, and refused: the number itself; its negative.
+// Wrong, and refused: the parts exchanged; the remainder of a part by 7.
 pub fn conjugate(a: Gaussian) -> Gaussian
     requires { ⌜ Within (2 ^ 15) a ⌝ }
     ensures { λ r. ⌜ (r ≡ conj a) × Within (2 ^ 15) r ⌝ }

@@ -12,6 +12,7 @@ ghost use Rattle.unitary_file.specs.Unitary.{Narrow};
 ghost use Rattle.six_form.specs.Places.{placeOf, isZero, PartsOf, FormAs};
 
 // The row and the column of each place above the diagonal.
+// Wrong, and refused: another row or column for a place; the columns of two places exchanged.
 const ROWS: [usize; 6] = [0, 0, 0, 1, 1, 2];
 
 const COLUMNS: [usize; 6] = [1, 2, 3, 2, 3, 3];
@@ -31,6 +32,7 @@ fn column_at(p: usize) -> usize
 }
 
 // The product of entries (a, c) and (b, d).
+// Wrong, and refused: the first factor from the transpose; both factors from one row.
 fn product_of(n: &[i64; 32], a: usize, c: usize, b: usize, d: usize) -> Gaussian
     requires { ⌜ (a < 4) × (c < 4) × (b < 4) × (d < 4) × Narrow (now n) ⌝ }
     ensures { λ r. ⌜ (r ≡ matrixOf (now (n .entry)) a c ⊗ matrixOf (now (n .entry)) b d) × Within (2 ^ 31) r ⌝ }
@@ -40,7 +42,7 @@ fn product_of(n: &[i64; 32], a: usize, c: usize, b: usize, d: usize) -> Gaussian
 }
 
 // The two-by-two minor at the rows of place p and the columns of place q.
-// Wrong, and refused: the transpose's; the other product taken off.
+// Wrong, and refused: that of the transpose; one product taken off itself.
 fn minor(n: &[i64; 32], p: usize, q: usize) -> Gaussian
     requires { ⌜ (p < 6) × (q < 6) × Narrow (now n) ⌝ }
     ensures { λ r. ⌜ (r ≡ compound (matrixOf (now (n .entry))) p q) × Within (2 ^ 32) r ⌝ }
@@ -55,6 +57,7 @@ fn minor(n: &[i64; 32], p: usize, q: usize) -> Gaussian
 }
 
 // The basis: the lower place of each matrix, and its entries there and at the complementary place.
+// Wrong, and refused: one place for all; the places of two pairs exchanged; another sign or another phase of an entry.
 const PLACES: [usize; 6] = [0, 0, 2, 1, 1, 2];
 
 const LOWER_RE: [i64; 6] = [0, 1, 0, -1, 0, 1];
@@ -93,6 +96,7 @@ fn upper(c: usize) -> Gaussian
 }
 
 // The minors times the basis: two of the six products count.
+// Wrong, and refused: the rows of another place; the minor of another place.
 fn half_entry(n: &[i64; 32], p: usize, c: usize) -> Gaussian
     requires { ⌜ (p < 6) × (c < 6) × Narrow (now n) ⌝ }
     ensures { λ r. ⌜ (r ≡ product 6 (compound (matrixOf (now (n .entry)))) basis p c) × Within (2 ^ 34) r ⌝ }
@@ -104,7 +108,7 @@ fn half_entry(n: &[i64; 32], p: usize, c: usize) -> Gaussian
 }
 
 // An entry of the form, twice.
-// Wrong, and refused: the basis on the left with no conjugate; the form's transpose.
+// Wrong, and refused: the place of the column for that of the row; the column of the row's number.
 fn form_entry(n: &[i64; 32], r: usize, c: usize) -> Gaussian
     requires { ⌜ (r < 6) × (c < 6) × Narrow (now n) ⌝ }
     ensures { λ x. ⌜ (x ≡ sixForm (matrixOf (now (n .entry))) r c) × Within (2 ^ 36) x ⌝ }
@@ -121,6 +125,7 @@ struct Parts {
     im: [i64; 36],
 }
 
+// Wrong, and refused: the real parts for the imaginary ones; the entries column by column.
 fn parts_of(n: &[i64; 32]) -> Parts
     requires { ⌜ Narrow (now n) ⌝ }
     ensures { λ r. ⌜ PartsOf (now (n .entry)) r ⌝ }
@@ -147,7 +152,7 @@ fn equals_zero(x: i64) -> bool
 }
 
 // Whether all numbers are 0.
-// Wrong, and refused: the first number alone; all but the last.
+// Wrong, and refused: the first row alone; the first half alone.
 fn is_zero(m: &[i64; 36]) -> bool
     ensures { λ r. ⌜ r ≡ isZero (now (m .entry)) ⌝ }
 {

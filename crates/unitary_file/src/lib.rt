@@ -33,6 +33,7 @@ fn refused(refusal: u8) -> Entries
 }
 
 // The 32 numbers.
+// Wrong, and refused: the first number for each; each of the first numbers twice.
 fn decode(bytes: &[u8]) -> [i64; 32]
     requires { ⌜ length (now bytes) ≡ unitaryLength ⌝ }
     ensures { λ r. ⌜ r ≡ unitaryEntries (now (bytes .entry)) ⌝ }
@@ -59,7 +60,7 @@ pub fn entry_of(n: &[i64; 32], i: usize, j: usize) -> Gaussian
 }
 
 // The squared size of entry (i, j).
-// Wrong, and refused: the real part alone; the product of the two parts.
+// Wrong, and refused: that of the transpose's entry; its remainder by 7.
 fn square_size(n: &[i64; 32], i: usize, j: usize) -> i64
     requires { ⌜ (i < 4) × (j < 4) × Narrow (now n) ⌝ }
     ensures { λ r. ⌜ r ≡ normOf (matrixOf (now (n .entry)) i j) ⌝ }
@@ -69,6 +70,7 @@ fn square_size(n: &[i64; 32], i: usize, j: usize) -> i64
 }
 
 // Whether no entry's squared size exceeds 2 to the power k.
+// Wrong, and refused: 2 to the power k itself refused; the diagonal alone.
 fn is_small(k: u8, n: &[i64; 32]) -> bool
     requires { ⌜ (k ≤ 60) × Narrow (now n) ⌝ }
     ensures { λ r. ⌜ r ≡ isSmall k (matrixOf (now (n .entry))) ⌝ }
@@ -94,7 +96,7 @@ fn conjugate_of(n: &[i64; 32], i: usize, j: usize) -> Gaussian
 }
 
 // Row i times the conjugate of row j.
-// Wrong, and refused: the rows exchanged; a column in place of row j.
+// Wrong, and refused: row j with itself; a column in place of row j.
 fn row_product(n: &[i64; 32], i: usize, j: usize) -> Gaussian
     requires { ⌜ (i < 4) × (j < 4) × Narrow (now n) ⌝ }
     ensures { λ r. ⌜ r ≡ product 4 (matrixOf (now (n .entry))) (adjoint (matrixOf (now (n .entry)))) i j ⌝ }
@@ -111,6 +113,7 @@ fn row_product(n: &[i64; 32], i: usize, j: usize) -> Gaussian
 }
 
 // Whether rows i and j have the product that rows of a unitary have: norm of a row with itself, else 0.
+// Wrong, and refused: norm for any two rows; the real part in place of the imaginary one.
 fn rows_unitary(n: &[i64; 32], i: usize, j: usize, norm: i64) -> bool
     requires { ⌜ (i < 4) × (j < 4) × Narrow (now n) ⌝ }
     ensures { λ r. ⌜ r ≡ unitaryAt norm (matrixOf (now (n .entry))) i j ⌝ }
@@ -126,6 +129,7 @@ fn rows_unitary(n: &[i64; 32], i: usize, j: usize, norm: i64) -> bool
 }
 
 // Whether the numbers over root two to the power k are unitary.
+// Wrong, and refused: each row with itself alone; the first row alone.
 fn is_unitary(k: u8, n: &[i64; 32]) -> bool
     requires { ⌜ (k ≤ 60) × Narrow (now n) ⌝ }
     ensures { λ r. ⌜ r ≡ isUnitary k (matrixOf (now (n .entry))) ⌝ }
@@ -142,7 +146,7 @@ fn is_unitary(k: u8, n: &[i64; 32]) -> bool
 }
 
 // The refusal of a unitary's bytes, or its exponent and entries.
-// Wrong, and refused: 19 before 18; an exponent of 14 taken in; 64 bytes taken in.
+// Wrong, and refused: 19 before 18; 18 for whatever is not unitary; an exponent of 14 taken in.
 pub fn read_unitary(bytes: &[u8]) -> Entries
     ensures { λ r. ⌜ ReadAs (now (bytes .entry)) r ⌝ }
 {

@@ -14,8 +14,8 @@ pub enum Synthesis {
 }
 
 // A unitary's 65 bytes into a gate list at the front of `out`. Both of its forms have the same letters, so either is cut.
-// Wrong, and refused: the power of ω one off; the power 0 for every list; L for the power; the count of the exponent that the form is computed with; 6
-// before 19.
+// Wrong, and refused: the power of ω one off; the power 0 for every list; L for the power; the power found with no exponent; the exponent that the form is
+// computed with for the count; no L; 17 for a buffer that is too short.
 pub fn unitary_to_gates(bytes: &[u8], out: &mut [u8]) -> Synthesis
     ensures { λ r. ⌜ UnitaryPromise (now (bytes .entry)) (now (out .entry)) (now (out .exit)) r ⌝ }
 {

@@ -61,3 +61,17 @@ pub fn swap_bytes(random: &mut Random, bytes: &mut Vec<u8>) {
 pub fn random_bytes(random: &mut Random, bytes: &mut Vec<u8>) {
     random.fill(bytes);
 }
+
+/// How many changes there are of the matrix, of its bytes, and of their length.
+pub fn mixture(random: &mut Random) -> [usize; 3] {
+    match random.below(20) {
+        0..=9 => [1, 0, 0],
+        10..=12 => [2, 0, 0],
+        13 | 14 => [0, 1, 0],
+        15 => [0, 2, 0],
+        16 => [0, 0, 1],
+        17 => [1, 1, 0],
+        18 => [1, 0, 1],
+        _ => [1, 1, 1],
+    }
+}

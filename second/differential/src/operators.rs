@@ -6,6 +6,7 @@ use plain::operator::{Operator, MAX_EXPONENT, OPERATOR_BYTES};
 use samples::{Random, Walk};
 
 use crate::call::Call;
+use crate::damages::mixture;
 use crate::judge::Judge;
 
 const INPUTS_PER_CALL: usize = 60_000;
@@ -78,20 +79,6 @@ fn damaged(random: &mut Random) -> Vec<u8> {
         random.pick(&LENGTH_CHANGES)(random, &mut file);
     }
     file
-}
-
-/// How many changes a damaged file has: of the operator, of bytes, of the length.
-fn mixture(random: &mut Random) -> [usize; 3] {
-    match random.below(20) {
-        0..=9 => [1, 0, 0],
-        10..=12 => [2, 0, 0],
-        13 | 14 => [0, 1, 0],
-        15 => [0, 2, 0],
-        16 => [0, 0, 1],
-        17 => [1, 1, 0],
-        18 => [1, 0, 1],
-        _ => [1, 1, 1],
-    }
 }
 
 fn negate_row(random: &mut Random, operator: &mut Operator) {

@@ -9,6 +9,7 @@ use plain::unitary::{Unitary, MAX_EXPONENT};
 use samples::{Random, MAX_UNITARY_COUNT};
 
 use crate::call::Call;
+use crate::damages::mixture;
 use crate::judge::Judge;
 
 use damages::{BYTE_CHANGES, LENGTH_CHANGES, UNITARY_CHANGES};
@@ -72,18 +73,4 @@ fn damaged(random: &mut Random) -> Vec<u8> {
         random.pick(&LENGTH_CHANGES)(random, &mut bytes);
     }
     bytes
-}
-
-/// How many changes there are: of the unitary, of bytes, of the length.
-fn mixture(random: &mut Random) -> [usize; 3] {
-    match random.below(20) {
-        0..=9 => [1, 0, 0],
-        10..=12 => [2, 0, 0],
-        13 | 14 => [0, 1, 0],
-        15 => [0, 2, 0],
-        16 => [0, 0, 1],
-        17 => [1, 1, 0],
-        18 => [1, 0, 1],
-        _ => [1, 1, 1],
-    }
 }

@@ -1,8 +1,13 @@
 //! Changes of a unitary, of its bytes and of their length. Some leave it unitary.
 
+// Changes of bytes have one type, whether or not they change the length.
+#![allow(clippy::ptr_arg)]
+
 use plain::omega::Number;
 use plain::unitary::{scale, transpose, Unitary, MAX_EXPONENT, SIZE, UNITARY_BYTES};
 use samples::Random;
+
+use crate::damages::{flip_bit, swap_bytes, Damage};
 
 pub const UNITARY_CHANGES: [fn(&mut Random, &mut Unitary); 25] = [
     turn_row,
@@ -32,10 +37,9 @@ pub const UNITARY_CHANGES: [fn(&mut Random, &mut Unitary); 25] = [
     random_entries,
 ];
 
-pub const BYTE_CHANGES: [fn(&mut Random, &mut [u8]); 4] =
-    [flip_bits, swap_bytes, large_exponent, random_bytes];
+pub const BYTE_CHANGES: [Damage; 4] = [flip_bit, swap_bytes, large_exponent, random_bytes];
 
-pub const LENGTH_CHANGES: [fn(&mut Random, &mut Vec<u8>); 2] = [other_length, random_length];
+pub const LENGTH_CHANGES: [Damage; 2] = [other_length, random_length];
 
 const UNITS: [Number; 4] = [
     Number::ONE,
@@ -223,24 +227,13 @@ fn entry_of<'a>(random: &mut Random, unitary: &'a mut Unitary) -> &'a mut Number
     &mut unitary.matrix[random.below(SIZE)][random.below(SIZE)]
 }
 
-fn flip_bits(random: &mut Random, bytes: &mut [u8]) {
-    for _ in 0..1 + random.below(3) {
-        bytes[random.below(UNITARY_BYTES)] ^= 1 << random.below(8);
-    }
-}
-
-fn swap_bytes(random: &mut Random, bytes: &mut [u8]) {
-    let (i, j) = random.two_below(UNITARY_BYTES);
-    bytes.swap(i, j);
-}
-
 /// An exponent above 13, where the entries may be those of a unitary with that exponent.
-fn large_exponent(random: &mut Random, bytes: &mut [u8]) {
+fn large_exponent(random: &mut Random, bytes: &mut Vec<u8>) {
     let above = [14, 14, 14, 15, 16, 28, 29, 32, 45, 64, 128, 255];
     bytes[0] = *random.pick(&above);
 }
 
-fn random_bytes(random: &mut Random, bytes: &mut [u8]) {
+fn random_bytes(random: &mut Random, bytes: &mut Vec<u8>) {
     random.fill(bytes);
     bytes[0] %= 16;
 }
