@@ -86,9 +86,6 @@ sum-δ n j f l =
 pub same-refl : (n : ℕ) (A : Matrix) → Same n A A
 same-refl n A i j hi hj = refl
 
-pub same-sym : {n : ℕ} {A B : Matrix} → Same n A B → Same n B A
-same-sym h i j hi hj = sym (h i j hi hj)
-
 pub product-cong : {n : ℕ} {A A′ B B′ : Matrix} → Same n A A′ → Same n B B′ → Same n (product n A B) (product n A′ B′)
 product-cong p q i k hi hk = sum-cong (λ j hj. ap₂ (λ x y. x ⊗ y) (p i j hi hj) (q j k hj hk))
 

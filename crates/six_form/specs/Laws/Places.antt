@@ -24,7 +24,7 @@ all-off : every 6 (λ c. every 6 (offPlaces c)) ≡ true
 unfolding everyFrom offPlaces basis
 all-off = refl
 
-pub off-places : (c q : ℕ) → c < 6 → q < 6 → q ≢ placeOf c → q ≢ 5 - placeOf c → basis q c ≡ real (pos 0)
+off-places : (c q : ℕ) → c < 6 → q < 6 → q ≢ placeOf c → q ≢ 5 - placeOf c → basis q c ≡ real (pos 0)
 unfolding offPlaces
 off-places c q hc hq m n =
     let t = every-sound 6 (offPlaces c) (every-sound 6 (λ c. every 6 (offPlaces c)) all-off c hc) q hq in

@@ -49,7 +49,7 @@ equal-by k l m n x y e f =
 
 -- ---- quotients
 
-pub same-quotient-sym : {U W : Quotient} → SameQuotient U W → SameQuotient W U
+same-quotient-sym : {U W : Quotient} → SameQuotient U W → SameQuotient W U
 same-quotient-sym s = record { entries-re = λ i j hi hj. sym (s .entries-re i j hi hj); entries-im = λ i j hi hj. sym (s .entries-im i j hi hj) }
 
 -- 2^d times the matrix, over 2 d more powers of root two

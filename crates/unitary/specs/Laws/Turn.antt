@@ -114,7 +114,7 @@ module _ (t : ℕ) (W U : Quotient) (m : Multiple W U) where
       *ℤ-cancel-l (formEntry t U r c .im) (pos 0) (pos (2 ^ (d + d))) (pos-nz (2 ^ (d + d)) (pow-pos (d + d)))
       (sym (ap (λ z. z .im) (multiple-entry r c hr hc)) ∙ l r c hr hc ∙ sym (*ℤ-zero (pos (2 ^ (d + d)))))
 
-pub same-forms : (U W : Quotient) → Unitary U → SameQuotient W U → (t : ℕ) → Real t U → Real t W × SameOperator (formAt t W) (formAt t U)
+same-forms : (U W : Quotient) → Unitary U → SameQuotient W U → (t : ℕ) → Real t U → Real t W × SameOperator (formAt t W) (formAt t U)
 same-forms U W o s t h =
     ⊎-elim (λ m. (multiple-up t W U m h, multiple-form t W U m)) (λ m. (multiple-down t U W m h, same-operator-sym (multiple-form t U W m)))
     (same-multiple W U s (unitary-nz U o))

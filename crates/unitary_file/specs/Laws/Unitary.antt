@@ -13,7 +13,7 @@ narrow-within n h i j = record { re = h (8 * i + 2 * j); im = h (8 * i + 2 * j +
 
 -- a term of the product of two rows, and the sum of the first ones
 module _ (n : List ℤ) (h : Narrow n) (i j : ℕ) where
-  pub term-within : (s : ℕ) → Within (2 ^ 31) (matrixOf n i s ⊗ adjoint (matrixOf n) s j)
+  term-within : (s : ℕ) → Within (2 ^ 31) (matrixOf n i s ⊗ adjoint (matrixOf n) s j)
   term-within s = within-⊗ (narrow-within n h i s) (within-conj (narrow-within n h j s))
 
   pub terms-within : (c : ℕ) → c ≤ 4 → Within (2 ^ 33) (sum c (λ s. matrixOf n i s ⊗ adjoint (matrixOf n) s j))
