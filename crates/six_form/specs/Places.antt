@@ -1,4 +1,4 @@
--- Where the basis of the six-by-six form has its entries: each of its six matrices at a place and at the complementary one, 5 less it.
+-- The six-by-six form as it is computed. Each of the six matrices of its basis has its entries at a place and at the complementary one, 5 less it.
 use mathlib.Core.Bool.{Bool}
 use mathlib.Core.List.{List, [], _∷_}
 use mathlib.Core.Path.{_≡_}

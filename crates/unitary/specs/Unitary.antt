@@ -1,5 +1,5 @@
--- Unitaries (document 02, P5): "an exponent k, then 16 Gaussian integers row by row (a 4x4 matrix N; it stands for U = N / sqrt2^k); the first
--- qubit is the left tensor factor".
+-- Unitaries (document 02, P5), and the plain matrices of the gates (source 001): a four-by-four matrix of Gaussian integers over a power of root two; "the
+-- first qubit is the left tensor factor".
 use mathlib.Core.Bool.{cond}
 use mathlib.Core.List.{List, [], _∷_}
 use Prim.Native.Nat.{ℕ, zero, suc, _+_, _*_, _/_, _%_, _^_, _<_}
