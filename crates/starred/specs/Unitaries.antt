@@ -98,7 +98,7 @@ unconjugated = l ∷ l ∷ unit ∷ o ∷ l ∷ m ∷ o ∷ unit ∷ o ∷ j ∷
 -- ---- the tables
 
 -- the six plain gates, by source 001, and `CHC`; refused: an entry alone, k 14, an entry of 2 with k 0, the same with k 2, where it is not too large, and
--- rows that are orthonormal if no conjugate is taken,
+-- rows that are orthonormal if no conjugate is taken
 unfoldable pub matrices : List Trial
 matrices =
     multiplies [] (over 0 one) ∷

@@ -62,6 +62,16 @@ pub fn random_bytes(random: &mut Random, bytes: &mut Vec<u8>) {
     random.fill(bytes);
 }
 
+/// A byte more or less, or a few.
+pub fn other_length(random: &mut Random, bytes: &mut Vec<u8>) {
+    let change = 1 + random.below(3);
+    if random.chance(2) {
+        bytes.truncate(bytes.len().saturating_sub(change));
+    } else {
+        bytes.extend(random.bytes(change));
+    }
+}
+
 /// How many changes there are of the matrix, of its bytes, and of their length.
 pub fn mixture(random: &mut Random) -> [usize; 3] {
     match random.below(20) {

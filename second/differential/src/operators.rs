@@ -6,7 +6,7 @@ use plain::operator::{Operator, MAX_EXPONENT, OPERATOR_BYTES};
 use samples::{Random, Walk};
 
 use crate::call::Call;
-use crate::damages::mixture;
+use crate::damages::{mixture, other_length};
 use crate::judge::Judge;
 
 const INPUTS_PER_CALL: usize = 60_000;
@@ -218,16 +218,6 @@ fn large_exponent(random: &mut Random, file: &mut [u8]) {
 fn random_bytes(random: &mut Random, file: &mut [u8]) {
     random.fill(file);
     file[0] %= 32;
-}
-
-/// A byte more or less, or a few.
-fn other_length(random: &mut Random, file: &mut Vec<u8>) {
-    let bytes = 1 + random.below(3);
-    if random.chance(2) {
-        file.truncate(OPERATOR_BYTES - bytes);
-    } else {
-        file.extend(random.bytes(bytes));
-    }
 }
 
 fn random_length(random: &mut Random, file: &mut Vec<u8>) {

@@ -4,10 +4,10 @@
 #![allow(clippy::ptr_arg)]
 
 use plain::omega::Number;
-use plain::unitary::{scale, transpose, Unitary, MAX_EXPONENT, SIZE, UNITARY_BYTES};
+use plain::unitary::{scale, transpose, Unitary, MAX_EXPONENT, SIZE};
 use samples::Random;
 
-use crate::damages::{flip_bit, swap_bytes, Damage};
+use crate::damages::{flip_bit, other_length, swap_bytes, Damage};
 
 pub const UNITARY_CHANGES: [fn(&mut Random, &mut Unitary); 25] = [
     turn_row,
@@ -236,16 +236,6 @@ fn large_exponent(random: &mut Random, bytes: &mut Vec<u8>) {
 fn random_bytes(random: &mut Random, bytes: &mut Vec<u8>) {
     random.fill(bytes);
     bytes[0] %= 16;
-}
-
-/// A byte more or less, or a few.
-fn other_length(random: &mut Random, bytes: &mut Vec<u8>) {
-    let change = 1 + random.below(3);
-    if random.chance(2) {
-        bytes.truncate(UNITARY_BYTES - change);
-    } else {
-        bytes.extend(random.bytes(change));
-    }
 }
 
 fn random_length(random: &mut Random, bytes: &mut Vec<u8>) {
