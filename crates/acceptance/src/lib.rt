@@ -52,7 +52,7 @@ pub fn cut_orthogonal(k: u8, m: [i64; 36]) -> Cut
 
 // The refusal of an operator for its entries, or its normal form.
 fn cut_operator(k: u8, m: [i64; 36]) -> Cut
-    requires { ⌜ (k ≤ 60) × Bounded (2 ^ 30) (entry m) ⌝ }
+    requires { ⌜ (k ≤ 60) × Bounded (2 ^ 31) (entry m) ⌝ }
     ensures { λ r. ⌜ CutAs (entriesRefusal (operator k (entry m))) k m r ⌝ }
 {
     if !orthogonality::is_within(k, m) {
@@ -73,11 +73,11 @@ fn cut_operator(k: u8, m: [i64; 36]) -> Cut
 pub fn cut_file(bytes: &[u8]) -> Cut
     ensures { λ r. ⌜ CutOf (now (bytes .entry)) r ⌝ }
 {
-    if bytes.len() != file::FILE_LENGTH {
+    if !file::is_length(bytes.len()) {
         return refused(1);
     }
     let k = bytes[0];
-    if file::LARGEST_EXPONENT < k {
+    if file::largest_exponent(bytes.len()) < k {
         return refused(2);
     }
     let m = file::decode(bytes);

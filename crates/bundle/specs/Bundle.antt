@@ -5,6 +5,7 @@ use Prim.Native.Nat.{ℕ, zero, suc, _+_, _*_, _-_, _/_, _%_, _<_}
 use lib.Dec.{eqb, leb, ltb}
 use lib.ListN.{length, getD, take, drop}
 use Rattle.matrix.specs.Range.{every, tabulate}
+use Rattle.file.specs.File.{twoAt}
 use Rattle.bundle.specs.declared.Part.{Part}
 use Rattle.bundle.specs.declared.Part.the-variants.{At, Refused}
 
@@ -13,10 +14,6 @@ abbrev pub mostSheets : ℕ
 mostSheets = 512
 
 -- ---- the trailer
-
--- the 16 bits at a place, "low byte first"
-abbrev pub twoAt : List ℕ → ℕ → ℕ
-twoAt b i = getD b i 0 + 256 * getD b (i + 1) 0
 
 -- "the 16-bit number of sheets as the last two bytes"
 abbrev pub sheetCount : List ℕ → ℕ

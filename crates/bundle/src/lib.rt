@@ -4,7 +4,7 @@ ghost use mathlib.Core.Path.{_≡_};
 ghost use Prim.Native.Nat.{_+_, _*_, _-_, _<_, _≤_};
 ghost use lib.ListN.{length, getD};
 ghost use denote.Ref.{ptr};
-ghost use Rattle.bundle.specs.Bundle.{bundleRefusal, hasSheets, offset as Bundle·offset, partOf, placeIn, Placed, sheetCount, sheetIn, trailerLength, twoAt};
+ghost use Rattle.bundle.specs.Bundle.{bundleRefusal, hasSheets, offset as Bundle·offset, partOf, placeIn, Placed, sheetCount, sheetIn, trailerLength};
 
 // The most sheets of a bundle.
 pub const MOST_SHEETS: usize = 512;
@@ -38,27 +38,12 @@ pub fn sheet_length(first: u8) -> usize
     (first - ABOVE_LENGTH) as usize
 }
 
-// The number of 16 bits that two bytes are.
-fn two(lo: u8, hi: u8) -> usize
-    ensures { λ r. ⌜ (r ≡ lo + 256 * hi) × (r < 65536) ⌝ }
-{
-    (lo as usize) + 256 * (hi as usize)
-}
-
-// The 16 bits at a place.
-fn two_at(bytes: &[u8], i: usize) -> usize
-    requires { ⌜ i + 1 < length (now bytes) ⌝ }
-    ensures { λ r. ⌜ (r ≡ twoAt (now (bytes .entry)) i) × (r < 65536) ⌝ }
-{
-    two(bytes[i], bytes[i + 1])
-}
-
 // The offset of sheet n of `count`, by the trailer.
 fn offset(bytes: &[u8], count: usize, n: usize) -> usize
     requires { ⌜ (count ≡ sheetCount (now bytes)) × (trailerLength count ≤ length (now bytes)) × (n < count) ⌝ }
     ensures { λ r. ⌜ (r ≡ Bundle·offset (now (bytes .entry)) n) × (r < 65536) ⌝ }
 {
-    two_at(bytes, bytes.len() - (2 * count + 2) + 2 * n)
+    file::two_at(bytes, bytes.len() - (2 * count + 2) + 2 * n)
 }
 
 // Whether the sheets follow one another up to the trailer, as their offsets say.
@@ -92,7 +77,7 @@ pub fn bundle_refusal(bytes: &[u8], n: u64) -> u8
     if len < 2 {
         return 20;
     }
-    let count = two_at(bytes, len - 2);
+    let count = file::two_at(bytes, len - 2);
     if len < 2 * count + 2 {
         return 20;
     }
@@ -117,7 +102,7 @@ pub fn bundle_part(bytes: &[u8], n: u64) -> Part
     if refusal != 0 {
         return Part::Refused(refusal);
     }
-    let count = two_at(bytes, bytes.len() - 2);
+    let count = file::two_at(bytes, bytes.len() - 2);
     let start = offset(bytes, count, n as usize);
     let size = sheet_length(bytes[start]);
     Part::At {

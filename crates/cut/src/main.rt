@@ -6,7 +6,7 @@ ghost use Rattle.file.specs.File.{Appended};
 ghost use Rattle.cut.specs.Output.{cutText};
 
 // The text for a file, at the front of `out`.
-fn answer(file: &[u8], out: &mut [u8; 256]) -> usize
+fn answer(file: &[u8], out: &mut [u8; 512]) -> usize
     ensures { λ r. ⌜ Appended (cutText (now (file .entry))) 0 (now (out .entry)) (now (out .exit)) r × Counts r (now (out .exit)) ⌝ }
 {
     let mut sheet = [0u8; sheet_bytes::LONGEST];
@@ -26,7 +26,7 @@ fn answer(file: &[u8], out: &mut [u8; 256]) -> usize
 fn main() {
     let mut file = io::buffer();
     let length = io::read_full(0, &mut file);
-    let mut text = [0u8; 256];
+    let mut text = [0u8; 512];
     let end = answer(&file[..length], &mut text);
     io::write_all(1, &text[..end]);
 }

@@ -1,18 +1,22 @@
-// Operator files: 73 bytes read into an operator's 36 entries, and an operator written as 73 bytes.
-// The contracts cite specs/File.antt.
+// Operator files of either kind, short or long, read into an operator's 36 entries, and an operator written as the kind that its exponent
+// calls for. The contracts cite specs/File.antt.
 
 ghost use mathlib.Core.Path.{_≡_};
-ghost use Prim.Native.Nat.{_+_, _*_, _<_, _≤_};
+ghost use Prim.Native.Nat.{_+_, _*_, _^_, _<_, _≤_};
+ghost use lib.IntN.{natAbs};
 ghost use lib.ListN.{length};
-ghost use mir.Syntax.{w16};
-ghost use mir.Val.{SFits};
-ghost use Rattle.file.specs.File.{Short, bits16, fileEntry, fileLength, fileMatrix, fileOf, noOperator, signed16, written};
+ghost use Rattle.matrix.specs.Range.{tabulate};
+ghost use Rattle.file.specs.File.{Appended, Fits, shortFile, longFile, bitsOf, byteOf, entryOf, exponentOf, fileMatrix, fileOf, highestOf, isLength, kindFor, kindOf, lengthFor, lengthOf, noOperator, signedOf, twoAt, widthOf, written};
 
-// The bytes of an operator file.
-pub const FILE_LENGTH: usize = 73;
+// The bytes of a short operator file and of a long one.
+pub const SHORT_LENGTH: usize = 73;
 
-// The largest exponent that a file may carry.
-pub const LARGEST_EXPONENT: u8 = 28;
+pub const LONG_LENGTH: usize = 145;
+
+// The largest exponent of a short file, and of a long one.
+pub const SHORT_EXPONENT: u8 = 28;
+
+pub const LARGEST_EXPONENT: u8 = 60;
 
 // What a call answers (document 01): "the count or the refusal's number, never both".
 pub enum Answer {
@@ -44,28 +48,116 @@ pub fn refused(refusal: u8) -> Read
     }
 }
 
-// The number whose 16 bits, in two's complement, these two bytes are.
-fn signed(lo: u8, hi: u8) -> i64
-    ensures { λ r. ⌜ r ≡ signed16 (lo + 256 * hi) ⌝ }
+// Whether an operator file may have so many bytes.
+pub fn is_length(length: usize) -> bool
+    ensures { λ r. ⌜ r ≡ isLength length ⌝ }
 {
-    let u = (lo as u64) + 256 * (hi as u64);
-    if u < 32768 {
-        return u as i64;
-    }
-    (u as i64) - 65536
+    length == SHORT_LENGTH || length == LONG_LENGTH
 }
 
-// Entry n of a file: the 16 bits of bytes 1 + 2 n and 2 + 2 n.
-pub fn entry_at(bytes: &[u8], n: usize) -> i64
-    requires { ⌜ 3 + 2 * n ≤ length (now bytes) ⌝ }
-    ensures { λ r. ⌜ r ≡ fileEntry (now (bytes .entry)) n ⌝ }
+// The largest exponent that a file of so many bytes may carry.
+pub fn largest_exponent(length: usize) -> u8
+    ensures { λ r. ⌜ r ≡ exponentOf (kindOf length) ⌝ }
 {
-    signed(bytes[1 + 2 * n], bytes[2 + 2 * n])
+    if length == LONG_LENGTH {
+        return LARGEST_EXPONENT;
+    }
+    SHORT_EXPONENT
+}
+
+// The bytes of the file that is written for the exponent k.
+pub fn length_for(k: u8) -> usize
+    ensures { λ r. ⌜ r ≡ lengthFor k ⌝ }
+{
+    if SHORT_EXPONENT < k {
+        return LONG_LENGTH;
+    }
+    SHORT_LENGTH
+}
+
+// The bytes of each of its entries.
+fn width_for(k: u8) -> usize
+    ensures { λ r. ⌜ r ≡ widthOf (kindFor k) ⌝ }
+{
+    if SHORT_EXPONENT < k {
+        return 4;
+    }
+    2
+}
+
+// What the highest bit of an entry is worth, in a short file and in a long one.
+const SHORT_HIGHEST: usize = 32768;
+
+const LONG_HIGHEST: usize = 2147483648;
+
+// What it is worth in the file that is written for the exponent k.
+fn highest_for(k: u8) -> usize
+    ensures { λ r. ⌜ r ≡ highestOf (kindFor k) ⌝ }
+{
+    if SHORT_EXPONENT < k {
+        return LONG_HIGHEST;
+    }
+    SHORT_HIGHEST
+}
+
+// The number that these bits are in two's complement, where the highest of them is worth `highest`.
+fn signed(u: usize, highest: usize) -> i64
+    requires { ⌜ (u < 2 * highest) × (highest ≤ 2 ^ 31) ⌝ }
+    ensures { λ r. ⌜ r ≡ signedOf highest u ⌝ }
+{
+    if u < highest {
+        return u as i64;
+    }
+    (u as i64) - ((2 * highest) as i64)
+}
+
+// The number of 16 bits that two bytes are.
+fn two(lo: u8, hi: u8) -> usize
+    ensures { λ r. ⌜ (r ≡ lo + 256 * hi) × (r < 65536) ⌝ }
+{
+    (lo as usize) + 256 * (hi as usize)
+}
+
+// The 16 bits at a place.
+pub fn two_at(bytes: &[u8], i: usize) -> usize
+    requires { ⌜ i + 1 < length (now bytes) ⌝ }
+    ensures { λ r. ⌜ (r ≡ twoAt (now (bytes .entry)) i) × (r < 65536) ⌝ }
+{
+    two(bytes[i], bytes[i + 1])
+}
+
+// Entry n of a short file: 16 bits.
+pub fn short_entry(bytes: &[u8], n: usize) -> i64
+    requires { ⌜ 2 + 2 * n < length (now bytes) ⌝ }
+    ensures { λ r. ⌜ r ≡ entryOf shortFile (now (bytes .entry)) n ⌝ }
+{
+    signed(two_at(bytes, 1 + 2 * n), SHORT_HIGHEST)
+}
+
+// Entry n of a long file: 32 bits.
+fn long_entry(bytes: &[u8], n: usize) -> i64
+    requires { ⌜ 4 + 4 * n < length (now bytes) ⌝ }
+    ensures { λ r. ⌜ r ≡ entryOf longFile (now (bytes .entry)) n ⌝ }
+{
+    let low = two_at(bytes, 1 + 4 * n);
+    let high = two_at(bytes, 3 + 4 * n);
+    signed(low + 65536 * high, LONG_HIGHEST)
+}
+
+// Entry n of a file of either kind.
+fn entry_at(bytes: &[u8], n: usize) -> i64
+    requires { ⌜ (n < 36) × (length (now bytes) ≡ lengthOf (kindOf (length (now bytes)))) ⌝ }
+    ensures { λ r. ⌜ r ≡ entryOf (kindOf (length (now (bytes .entry)))) (now (bytes .entry)) n ⌝ }
+{
+    if bytes.len() == LONG_LENGTH {
+        return long_entry(bytes, n);
+    }
+    short_entry(bytes, n)
 }
 
 // The entries of an operator file.
 pub fn decode(bytes: &[u8]) -> [i64; 36]
-    requires { ⌜ length (now bytes) ≡ fileLength ⌝ }
+    requires { ⌜ length (now bytes) ≡ lengthOf (kindOf (length (now bytes))) ⌝ }
     ensures { λ r. ⌜ r ≡ fileMatrix (now (bytes .entry)) ⌝ }
 {
     let mut m = [0i64; 36];
@@ -77,28 +169,45 @@ pub fn decode(bytes: &[u8]) -> [i64; 36]
     m
 }
 
-// The 16 bits of x in two's complement.
-fn unsigned(x: i64) -> u64
-    requires { ⌜ SFits w16 x ⌝ }
-    ensures { λ r. ⌜ (r ≡ bits16 x) × (r < 65536) ⌝ }
+// The bits of x in two's complement, where the highest of them is worth `highest`.
+fn unsigned(x: i64, highest: usize) -> usize
+    requires { ⌜ (natAbs x < highest) × (highest ≤ 2 ^ 31) ⌝ }
+    ensures { λ r. ⌜ r ≡ bitsOf highest x ⌝ }
 {
     if x < 0 {
-        return (x + 65536) as u64;
+        return (x + ((2 * highest) as i64)) as usize;
     }
-    x as u64
+    x as usize
+}
+
+// The low bytes of u, so many as `width` says, from `at` on; the place after them.
+fn write_number(u: usize, width: usize, out: &mut [u8], at: usize) -> usize
+    requires { ⌜ at + width ≤ length (now out) ⌝ }
+    ensures { λ r. ⌜ Appended (tabulate (byteOf u) 0 width) at (now (out .entry)) (now (out .exit)) r ⌝ }
+{
+    let mut rest = u;
+    let mut n = 0usize;
+    while n < width {
+        out[at + n] = (rest % 256) as u8;
+        rest = rest / 256;
+        n += 1;
+    }
+    at + n
 }
 
 // The file of (k, m) at the front of `out`; the bytes past it stay.
 pub fn encode(k: u8, m: [i64; 36], out: &mut [u8])
-    requires { ⌜ (fileLength ≤ length (now out)) × Short m ⌝ }
+    requires { ⌜ (lengthFor k ≤ length (now out)) × Fits (kindFor k) m ⌝ }
     ensures { λ r. ⌜ now (out .exit) ≡ written (now (out .entry)) (fileOf k m) ⌝ }
 {
+    let width = width_for(k);
+    let highest = highest_for(k);
     out[0] = k;
+    let mut at = 1usize;
     let mut n = 0usize;
     while n < 36 {
-        let u = unsigned(m[n]);
-        out[1 + 2 * n] = (u % 256) as u8;
-        out[2 + 2 * n] = (u / 256) as u8;
+        let next = write_number(unsigned(m[n], highest), width, out, at);
+        at = next;
         n += 1;
     }
 }

@@ -23,7 +23,7 @@ pub record ReadInto (bs : List ℕ) (w : List Gate) : Type 0 where
   -- the count answered is that exponent
   pub count : fileExponent (productFile w) ≡ leastOf w .exponent
 
--- "whose product has a least exponent above 28"
+-- "whose product has a least exponent above" 60
 pub record Deep (w : List Gate) : Type 0 where
   pub exponent : ℕ
   pub least : LeastExponent (productOf w) exponent
@@ -34,7 +34,7 @@ pub record Beginning (bs : List ℕ) (w : List Gate) (rest : List ℕ) : Type 0 
   pub letters : bs ≡ map letter w ++ rest
   pub first : (n : ℕ) → n < length w → Deep (take n w) → ⊥
 
--- the leftmost place earns 9: "a beginning of the list whose product has a least exponent above 28"
+-- the leftmost place earns 9: "a beginning of the list whose product has a least exponent above" 60
 pub record EarnsNine (bs : List ℕ) : Type 0 where
   pub w : List Gate
   pub rest : List ℕ

@@ -2,14 +2,14 @@
 use mathlib.Core.Bool.{cond}
 use mathlib.Core.Path.{_≡_}
 use mathlib.Core.List.{List, [], _∷_, _++_}
-use Prim.Native.Nat.{ℕ, _+_, _≤_}
+use Prim.Native.Nat.{ℕ, _+_, _*_, _≤_}
 use lib.Dec.{ltb}
 use lib.ListN.{length}
 use Rattle.matrix.specs.Matrix.{listed}
 use Rattle.matrix.specs.Array.{Least, leastForm}
 use Rattle.file.specs.declared.Answer.{Answer}
 use Rattle.file.specs.declared.Answer.the-variants.{Count, Refused}
-use Rattle.file.specs.File.{largestExponent, fileLength, fileOf, written}
+use Rattle.file.specs.File.{largestExponent, lengthFor, fileOf, written}
 use Rattle.letter.specs.declared.Gate.{Gate}
 use Rattle.letter.specs.declared.Letter.{Letter}
 use Rattle.letter.specs.declared.Letter.the-variants.{Is, Unknown}
@@ -17,9 +17,13 @@ use Rattle.letter.specs.Gate.{gateOf}
 use Rattle.file.specs.declared.Read.{Read}
 use Rattle.gate.specs.Product.{productOf}
 
--- "more than 8,192 letters"
+-- "7 says 16,384" (document 02, P10)
 abbrev pub largestList : ℕ
-largestList = 8192
+largestList = 16384
+
+-- the bytes that have room for every gate list that is written: 6 is "shorter than 256 × (t + 1)", and t is at most 60
+abbrev pub longestWritten : ℕ
+longestWritten = 256 * (largestExponent + 1)
 
 -- a list's product "over the least power of root two"
 unfoldable pub leastOf : List Gate → Least
@@ -31,7 +35,7 @@ pub data Reading : Type 0 where
   refusal : ℕ → Reading
 
 -- one letter behind the gates w: 8, "a byte that is no letter of the table", or 9, "a beginning of the list whose product has a least
--- exponent above 28", or go on
+-- exponent above" 60, or go on
 abbrev pub readLetter : List Gate → (List Gate → Reading) → Letter → Reading
 readLetter w rest Unknown = refusal 8
 readLetter w rest (Is g) = cond (ltb largestExponent (leastOf (w ++ g ∷ []) .exponent)) (refusal 9) (rest (w ++ g ∷ []))
@@ -54,12 +58,12 @@ ReadAs (refusal n) r = (r .refusal ≡ n) × (1 ≤ n)
 abbrev pub productFile : List Gate → List ℕ
 productFile w = fileOf (leastOf w .exponent) (leastOf w .matrix)
 
--- the answer, where the lent buffer has n bytes
+-- the answer, where the lent buffer has n bytes: "6 follows the file written"
 abbrev pub operatorAnswer : ℕ → Reading → Answer
-operatorAnswer n (gates w) = cond (ltb n fileLength) (Refused 6) (Count (leastOf w .exponent))
+operatorAnswer n (gates w) = cond (ltb n (lengthFor (leastOf w .exponent))) (Refused 6) (Count (leastOf w .exponent))
 operatorAnswer n (refusal r) = Refused r
 
 -- the buffer afterwards
 abbrev pub operatorBuffer : List ℕ → Reading → List ℕ
-operatorBuffer old (gates w) = cond (ltb (length old) fileLength) old (written old (productFile w))
+operatorBuffer old (gates w) = cond (ltb (length old) (lengthFor (leastOf w .exponent))) old (written old (productFile w))
 operatorBuffer old (refusal r) = old

@@ -123,10 +123,13 @@ fn read_letters(letters: &[u8]) -> Read
 }
 
 // The most letters of a gate list.
-pub const LARGEST_LIST: usize = 8192;
+pub const LARGEST_LIST: usize = 16384;
+
+// The bytes that have room for every gate list that is written.
+pub const LONGEST_WRITTEN: usize = 256 * (file::LARGEST_EXPONENT as usize + 1);
 
 // A gate list into an operator file at the front of `out`.
-// Wrong, and refused: 9 at a beginning whose least exponent is 28; the product at another exponent than its least one.
+// Wrong, and refused: 9 at a beginning whose least exponent is 60; the product at another exponent than its least one.
 pub fn gates_to_operator(letters: &[u8], out: &mut [u8]) -> Answer
     ensures { λ r. ⌜ ProductPromise (now (letters .entry)) (now (out .entry)) (now (out .exit)) r ⌝ }
 {
@@ -138,11 +141,11 @@ pub fn gates_to_operator(letters: &[u8], out: &mut [u8]) -> Answer
     if refusal != 0 {
         return Answer::Refused(refusal);
     }
-    if out.len() < file::FILE_LENGTH {
-        return Answer::Refused(6);
-    }
     let exponent = product.exponent;
     let matrix = product.matrix;
+    if out.len() < file::length_for(exponent) {
+        return Answer::Refused(6);
+    }
     file::encode(exponent, matrix, out);
     Answer::Count(exponent)
 }

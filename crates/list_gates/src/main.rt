@@ -6,10 +6,10 @@ ghost use Rattle.io.specs.Counts.{Counts};
 ghost use Rattle.list_gates.specs.Output.{Printed};
 
 // The text for a file, at the front of `out`.
-fn answer(file: &[u8], out: &mut [u8; 8192]) -> usize
+fn answer(file: &[u8], out: &mut [u8; 16384]) -> usize
     ensures { λ r. ⌜ Printed (now (file .entry)) (now (out .entry)) (now (out .exit)) r × Counts r (now (out .exit)) ⌝ }
 {
-    let mut gates = [0u8; 7424];
+    let mut gates = [0u8; gate::LONGEST_WRITTEN];
     let answer = operator::operator_to_gates(file, &mut gates);
     match answer {
         Listed::Letters {
@@ -29,7 +29,7 @@ fn answer(file: &[u8], out: &mut [u8; 8192]) -> usize
 fn main() {
     let mut file = io::buffer();
     let length = io::read_full(0, &mut file);
-    let mut text = [0u8; 8192];
+    let mut text = [0u8; 16384];
     let end = answer(&file[..length], &mut text);
     io::write_all(1, &text[..end]);
 }

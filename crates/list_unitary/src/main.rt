@@ -6,10 +6,10 @@ ghost use Rattle.list_unitary.specs.Output.{Printed};
 
 // The text for the bytes, at the front of `out`.
 // Wrong, and refused: L in the line of the power; the power over L.
-fn answer(bytes: &[u8], out: &mut [u8; 8192]) -> usize
+fn answer(bytes: &[u8], out: &mut [u8; 16384]) -> usize
     ensures { λ r. ⌜ Printed (now (bytes .entry)) (now (out .entry)) (now (out .exit)) r × Counts r (now (out .exit)) ⌝ }
 {
-    let mut gates = [0u8; 7424];
+    let mut gates = [0u8; gate::LONGEST_WRITTEN];
     let answer = unitary_gates::unitary_to_gates(bytes, &mut gates);
     match answer {
         Synthesis::Letters {
@@ -29,7 +29,7 @@ fn answer(bytes: &[u8], out: &mut [u8; 8192]) -> usize
 fn main() {
     let mut bytes = io::buffer();
     let length = io::read_full(0, &mut bytes);
-    let mut text = [0u8; 8192];
+    let mut text = [0u8; 16384];
     let end = answer(&bytes[..length], &mut text);
     io::write_all(1, &text[..end]);
 }

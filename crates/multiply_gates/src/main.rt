@@ -14,7 +14,7 @@ fn answer(input: &[u8], out: &mut [u8; 256]) -> usize
     let letters = text_read::without_line_feed(input);
     let answer = gate::gates_to_operator(letters, out);
     match answer {
-        Answer::Count(_) => file::FILE_LENGTH,
+        Answer::Count(count) => file::length_for(count),
         Answer::Refused(refusal) => line::write_refused(refusal, out, 0),
     }
 }

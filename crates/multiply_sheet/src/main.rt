@@ -11,7 +11,7 @@ fn answer(bytes: &[u8], out: &mut [u8; 256]) -> usize
 {
     let answer = sheet::sheet_to_operator(bytes, out);
     match answer {
-        Answer::Count(_) => file::FILE_LENGTH,
+        Answer::Count(count) => file::length_for(count),
         Answer::Refused(refusal) => line::write_refused(refusal, out, 0),
     }
 }

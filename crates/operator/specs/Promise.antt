@@ -7,7 +7,7 @@ use Prim.Native.Nat.{ℕ, _+_, _*_, _≤_, _<_}
 use lib.Dec.{eqb, ltb}
 use lib.ListN.{length, getD}
 use Rattle.matrix.specs.Operator.{SameOperator, LeastExponent}
-use Rattle.file.specs.File.{largestExponent, fileLength, fileExponent, fileMatrix, written, fileOperator}
+use Rattle.file.specs.File.{fileExponent, fileMatrix, fileOperator, InForm, written}
 use Rattle.letter.specs.declared.Gate.{Gate}
 use Rattle.letter.specs.Gate.{letter}
 use Rattle.gate.specs.Product.{MultipliesTo}
@@ -42,8 +42,8 @@ NoList b = (w : List Gate) → MultipliesTo w (fileOperator b) → ⊥
 -- demand 3, where n is the refusal answered: "An operator file of the right length with an exponent in range is refused for its entries exactly
 -- when no gate list over these gates, of whatever length, multiplies to its operator"
 pub record ExactlyRefused (b : List ℕ) (n : ℕ) : Type 0 where
-  pub refused : length b ≡ fileLength → fileExponent b ≤ largestExponent → ForEntries n → NoList b
-  pub no-list : length b ≡ fileLength → fileExponent b ≤ largestExponent → NoList b → ForEntries n
+  pub refused : InForm b → ForEntries n → NoList b
+  pub no-list : InForm b → NoList b → ForEntries n
 
 -- ---- sheets
 

@@ -1,5 +1,5 @@
--- States to order (document 01): "from t (0 to 28) and a spoilage p in thousandths (0 to 1000): t plus t × p / 1000", rounded as document 02
--- says, P1.
+-- States to order (document 01): "from t … and a spoilage p in thousandths (0 to 1000): t plus t × p / 1000", rounded as document 02 says,
+-- P1, for t from 0 to 60 (P10).
 use mathlib.Core.Path.{_≡_}
 use mathlib.Core.Bool.{cond, _||_}
 use Prim.Native.Nat.{ℕ, _+_, _*_, _/_, _%_, _≤_}
@@ -29,6 +29,6 @@ pub record Nearest (n m : ℕ) : Type 0 where
 abbrev pub figure : ℕ → ℕ → ℕ
 figure t p = t + nearest (t * p)
 
--- "14: t above 28 or p above 1000"; "the figure stands in place of the count"
+-- 14: t above 60 or "p above 1000"; "the figure stands in place of the count"
 unfoldable pub orderAnswer : ℕ → ℕ → Answer
 orderAnswer t p = cond (ltb largestExponent t || ltb largestSpoilage p) (Refused 14) (Count (figure t p))

@@ -47,7 +47,7 @@ pub fn is_orthogonal(k: u8, m: [i64; 36]) -> bool
 
 // Whether no entry's square exceeds 2 to the power k.
 pub fn is_within(k: u8, m: [i64; 36]) -> bool
-    requires { ⌜ (k ≤ 60) × Bounded (2 ^ 30) (entry m) ⌝ }
+    requires { ⌜ (k ≤ 60) × Bounded (2 ^ 31) (entry m) ⌝ }
     ensures { λ r. ⌜ r ≡ isWithin k (entry m) ⌝ }
 {
     let limit = power_of_two(k);

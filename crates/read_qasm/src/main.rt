@@ -135,7 +135,7 @@ fn answer_long(text: &[u8], out: &mut [u8; gate::LARGEST_LIST]) -> usize
 }
 
 fn text_buffer() -> [u8; LONGER]
-    ensures { λ r. ⌜ 172100 ≡ length r ⌝ }
+    ensures { λ r. ⌜ 344132 ≡ length r ⌝ }
 {
     [0; LONGER]
 }

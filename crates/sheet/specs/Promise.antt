@@ -11,7 +11,7 @@ use Rattle.matrix.specs.Operator.{SameOperator, LeastExponent}
 use Rattle.matrix.specs.Array.{leastForm}
 use Rattle.file.specs.declared.Answer.{Answer}
 use Rattle.file.specs.declared.Answer.the-variants.{Count, Refused}
-use Rattle.file.specs.File.{fileLength, fileExponent, fileOperator, fileOf, written}
+use Rattle.file.specs.File.{fileExponent, fileOperator, lengthFor, fileOf, written}
 use Rattle.file.specs.declared.Read.{Read}
 use Rattle.sheet_bytes.specs.Bytes.{shortest, countByte, sheet, sheetOperator}
 use Rattle.sheet_bytes.specs.Sheet.{sheetRefusal, sheetLeast}
@@ -32,14 +32,15 @@ pub record SheetRead (s : List ℕ) (r : Read) : Type 0 where
 abbrev pub sheetFile : List ℕ → List ℕ
 sheetFile s = fileOf (sheetLeast s .exponent) (sheetLeast s .matrix)
 
--- the answer, where the lent buffer has n bytes: the refusals of a sheet, and then 6, "shorter than … 73 bytes for an operator"
+-- the answer, where the lent buffer has n bytes: the refusals of a sheet, and then 6, which "follows the file written" (document 02, P10)
 unfoldable pub operatorAnswer : List ℕ → ℕ → Answer
-operatorAnswer s n = cond (eqb (sheetRefusal s) 0) (cond (ltb n fileLength) (Refused 6) (Count (sheetLeast s .exponent))) (Refused (sheetRefusal s))
+operatorAnswer s n =
+    cond (eqb (sheetRefusal s) 0) (cond (ltb n (lengthFor (sheetLeast s .exponent))) (Refused 6) (Count (sheetLeast s .exponent))) (Refused (sheetRefusal s))
 
 -- the buffer afterwards
 unfoldable pub operatorBuffer : List ℕ → List ℕ → List ℕ
 operatorBuffer s old =
-    cond (eqb (sheetRefusal s) 0) (cond (ltb (length old) fileLength) old (written old (sheetFile s))) old
+    cond (eqb (sheetRefusal s) 0) (cond (ltb (length old) (lengthFor (sheetLeast s .exponent))) old (written old (sheetFile s))) old
 
 pub record OperatorPromise (s old new : List ℕ) (a : Answer) : Type 0 where
   pub answer : a ≡ operatorAnswer s (length old)

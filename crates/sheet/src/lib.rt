@@ -18,7 +18,7 @@ ghost use Rattle.sheet.specs.Promise.{CutAgain, SheetRead, OperatorPromi
 
 // The product of the generators of the first `count` bytes and a Clifford.
 fn multiplied(bytes: &[u8], count: usize, columns: [u8; 6]) -> [i64; 36]
-    requires { ⌜ (count ≤ 28) × (count ≤ length (now bytes)) × (every count (λ n. isNumber (getD (now bytes) n 0)) ≡ true) × (arePermutation columns ≡ true) ⌝ }
+    requires { ⌜ (count ≤ 60) × (count ≤ length (now bytes)) × (every count (λ n. isNumber (getD (now bytes) n 0)) ≡ true) × (arePermutation columns ≡ true) ⌝ }
     ensures { λ r. ⌜ r ≡ listed (normalForm (take count (now (bytes .entry))) (columnsMatrix columns) .matrix) ⌝ }
 {
     let mut m = times::identity();
@@ -51,7 +51,7 @@ fn is_sheet(bytes: &[u8], count: u8, numbers: [u8; 60], columns: [u8; 6]) -> boo
 
 // The operator (count, m) at its least exponent, if cutting it gives these bytes.
 fn cut_again(bytes: &[u8], count: u8, m: [i64; 36]) -> Read
-    requires { ⌜ (count ≤ 28) × Orthogonal (operator count (entry m)) ⌝ }
+    requires { ⌜ (count ≤ 60) × Orthogonal (operator count (entry m)) ⌝ }
     ensures { λ r. ⌜ CutAgain (now (bytes .entry)) count m r ⌝ }
 {
     let normal = reduction::normal_form(count, m);
@@ -96,11 +96,11 @@ pub fn sheet_to_operator(bytes: &[u8], out: &mut [u8]) -> Answer
     if refusal != 0 {
         return Answer::Refused(refusal);
     }
-    if out.len() < file::FILE_LENGTH {
-        return Answer::Refused(6);
-    }
     let exponent = read.exponent;
     let matrix = read.matrix;
+    if out.len() < file::length_for(exponent) {
+        return Answer::Refused(6);
+    }
     file::encode(exponent, matrix, out);
     Answer::Count(exponent)
 }

@@ -1,4 +1,4 @@
--- A sheet's bytes (document 01, "Sheet"; document 02, P2 and P4), and the operator that they stand for.
+-- A sheet's bytes (document 01, "Sheet"; document 02, P2, P4 and P10), and the operator that they stand for.
 use mathlib.Core.Bool.{cond}
 use mathlib.Core.List.{List, [], _∷_, _++_}
 use Prim.Native.Nat.{ℕ, _+_, _-_}
@@ -9,12 +9,12 @@ use Rattle.matrix.specs.Operator.{Operator}
 use Rattle.clifford.specs.Columns.{columnsMatrix, columnBytes, isMinus, timesSign, signed}
 use Rattle.reduction.specs.Reduction.{taken, remaining, normalForm}
 
--- "The sheet's length is t + 8, number 10 allows 8 to 36": the count, the six columns and the sign, and with them up to 28 generators
+-- "The sheet's length is t + 8" (P4), "number 10 ends at 68" (P10): the count, the six columns and the sign, and with them up to 60 generators
 abbrev pub shortest : ℕ
 shortest = 8
 
 abbrev pub longest : ℕ
-longest = 36
+longest = 68
 
 -- ---- written
 

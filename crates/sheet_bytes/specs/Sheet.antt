@@ -35,7 +35,7 @@ isClifford bs = arePermutation bs && isEven bs
 abbrev pub hasWrongSign : List ℕ → ℕ → Bool
 hasWrongSign bs s = ltb 1 s || isMinus (getD bs 0 0)
 
--- the tests of a sheet's bytes in their order: "10 allows 8 to 36", "16, a first byte that isn't the length plus 56, directly after 10",
+-- the tests of a sheet's bytes in their order: "number 10 allows 8 to" 68, "16, a first byte that isn't the length plus 56, directly after 10",
 -- "11: a generator byte outside 1 to 15, or a column byte outside 1 to 6 and 129 to 134", "12: the six columns are no Clifford", "15, a last byte
 -- above 1 or a negative column 1, directly after 12"; n where they pass all
 abbrev pub bytesRefusal : List ℕ → ℕ → ℕ

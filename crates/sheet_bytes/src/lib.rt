@@ -10,10 +10,10 @@ ghost use Rattle.clifford.specs.Columns.{areColumnBytes, signed};
 ghost use Rattle.sheet_bytes.specs.Bytes.{shortest, longest, signByte, sheetBytes, sheetColumns};
 ghost use Rattle.sheet_bytes.specs.Sheet.{isCounted, isNumber, isClifford, hasWrongSign, bytesRefusal};
 
-// The fewest and the most bytes of a sheet: the count, six columns and the sign, and with them up to 28 generators.
+// The fewest and the most bytes of a sheet: the count, six columns and the sign, and with them up to 60 generators.
 pub const SHORTEST: usize = 8;
 
-pub const LONGEST: usize = 36;
+pub const LONGEST: usize = 68;
 
 // The sign of what remains: 1 where column 1 has -1.
 fn sign_byte(columns: [u8; 6]) -> u8

@@ -1,17 +1,19 @@
 -- Document 01's trial cuts that are marked to be proved of the definitions, with the first byte of document 02, P4, the last byte of P2 and the
--- L of P3; these requests' own cases, the orders of P1, the walks of P6 and the bundles of P7: a table of cases, and the test that each passes.
+-- L of P3; these requests' own cases, the orders of P1, the walks of P6, the bundles of P7 and the two kinds of file of P10: a table of cases, and
+-- the test that each passes.
 use mathlib.Core.Bool.{Bool, true, false, _&&_}
 use mathlib.Core.List.{List, [], _∷_, _++_}
-use Prim.Native.Nat.{ℕ}
+use Prim.Native.Nat.{ℕ, _+_, _-_, _^_}
 use lib.Dec.{eqb}
 use lib.IntN.{pos, negsuc, _*ℤ_}
-use lib.ListN.{replicate}
+use lib.ListN.{take, replicate}
 use Rattle.matrix.specs.List.{sameList}
+use Rattle.matrix.specs.Range.{tabulate}
 use Rattle.matrix.specs.Matrix.{Matrix, δ, replaced, listed}
 use Rattle.matrix.specs.Array.{beforeOdd}
 use Rattle.file.specs.declared.Answer.{Answer}
 use Rattle.file.specs.declared.Answer.the-variants.{Count, Refused}
-use Rattle.file.specs.File.{fileOf}
+use Rattle.file.specs.File.{Kind, shortFile, longFile, lengthOf, fileByte, fileOf}
 use Rattle.letter.specs.declared.Gate.{Gate}
 use Rattle.letter.specs.declared.Gate.the-variants.{H1, Cz, Cs}
 use Rattle.gate.specs.Product.{productOf}
@@ -26,10 +28,10 @@ use Rattle.bundle_write.specs.Writing.{sheetsRefusal, sheetsBundle}
 use Rattle.order.specs.Order.{orderAnswer}
 
 pub data Trial : Type 0 where
-  -- the file of this exponent and matrix is accepted and has this sheet, and so many cuts that grouped as 2 and 4
-  cuts : ℕ → Matrix → List ℕ → ℕ → Trial
-  -- the file of this exponent and matrix earns this refusal
-  fileRefused : ℕ → Matrix → ℕ → Trial
+  -- this file is accepted and has this sheet, and so many cuts that grouped as 2 and 4
+  cuts : List ℕ → List ℕ → ℕ → Trial
+  -- this file earns this refusal
+  fileRefused : List ℕ → ℕ → Trial
   -- these bytes, read as a sheet, earn this refusal
   sheetRefused : List ℕ → ℕ → Trial
   -- this list multiplies to an operator with this sheet, and so many cuts that grouped as 2 and 4
@@ -55,9 +57,8 @@ counts (Count m) n = eqb m n
 counts (Refused m) n = false
 
 abbrev pub passes : Trial → Bool
-passes (cuts k M s l) =
-    eqb (fileRefusal (fileOf k (listed M))) 0 && (sameList (fileSheet (fileOf k (listed M))) s && eqb (fileLoose (fileOf k (listed M))) l)
-passes (fileRefused k M n) = eqb (fileRefusal (fileOf k (listed M))) n
+passes (cuts b s l) = eqb (fileRefusal b) 0 && (sameList (fileSheet b) s && eqb (fileLoose b) l)
+passes (fileRefused b n) = eqb (fileRefusal b) n
 passes (sheetRefused s n) = eqb (sheetRefusal s) n
 passes (multiplies w s l) = sameList (sheetOf (productOf w)) s && eqb (fileLoose (productFile w)) l
 passes (equals w k M) = sameList (productFile w) (fileOf k (listed M))
@@ -67,6 +68,17 @@ passes (takes b n s) = eqb (bundleRefusal b n) 0 && sameList (sheetIn b n) s
 passes (bundleRefused b n r) = eqb (bundleRefusal b n) r
 passes (bundles s b) = eqb (sheetsRefusal s) 0 && sameList (sheetsBundle s) b
 passes (sheetsRefused s r) = eqb (sheetsRefusal s) r
+
+-- a file of either kind, of an exponent that it may not be able to carry
+abbrev file : Kind → ℕ → Matrix → List ℕ
+file t k M = tabulate (fileByte t k (listed M)) 0 (lengthOf t)
+
+-- a number times the identity
+abbrev times : ℕ → Matrix
+times n r c = pos n *ℤ δ r c
+
+abbrev chc : Matrix
+chc = productOf (Cs ∷ H1 ∷ Cs ∷ []) .matrix
 
 abbrev pub allPass : List Trial → Bool
 allPass [] = true
@@ -92,19 +104,36 @@ threeBundled = threeSheets ++ 0 ∷ 0 ∷ 8 ∷ 0 ∷ 17 ∷ 0 ∷ 3 ∷ 0 ∷ [
 abbrev tooLong : List ℕ
 tooLong = 255 ∷ replicate 198 1
 
--- the identity; twice the identity, k 2; twice the product of `CHC`, k 4; two sheets that earn 13; a last byte above 1, also of a sheet that
+-- the identity; twice the identity, k 2; twice the product of `CHC`, k 4; the same three as long files; 2^14 times the identity, k 28, in both
+-- kinds, with k 29 in a short file, and 2^14 times `C`, k 29, in a long one; 2^30 times the identity, k 60, and k 61; one more in its last entry, and
+-- an entry of −2^31; the long identity with k 1, a byte short, a byte long, and its first 73 bytes, which are a short file; two sheets that earn 13; a last byte above 1, also of a sheet that
 -- would earn 13; a negative column 1; columns that are no Clifford; the sheet of `CHC` without its first byte, and without its last one too; a
--- first byte for a longer sheet, also of a sheet that would earn 11; seven bytes and 37, whose first byte fits them; the identity with −1 in
+-- first byte for a longer sheet, also of a sheet that would earn 11; seven bytes and 69, whose first byte fits them, and 68, whose columns are no Clifford; the identity with −1 in
 -- row 1; `C`; `CC` and `Z`; `HH`, which is the identity; `ZZ`, which is its negative; eight `C`, which are the identity, count 0; `CHC`; the orders;
 -- the walks: the identity, twice the identity, and that with 1 as its last entry and with −1 in row 2; three sheets as a bundle, each of them
 -- taken, and number 3; the empty bundle; no bytes, one, and a trailer for one sheet too many; offsets that leave a gap, a first byte of 63, a sheet
 -- that reaches into the trailer, also where there is no such sheet; 199 bytes, which are handed back and earn 10; no sheets and three, written; a
--- sheet cut short, and a first byte for 37
+-- sheet cut short, and a first byte for 69
 unfoldable pub trials : List Trial
 trials =
-    cuts 0 δ identitySheet 0 ∷
-    cuts 2 (λ r c. pos 2 *ℤ δ r c) identitySheet 0 ∷
-    cuts 4 (λ r c. pos 2 *ℤ productOf (Cs ∷ H1 ∷ Cs ∷ []) .matrix r c) chcSheet 1 ∷
+    cuts (file shortFile 0 δ) identitySheet 0 ∷
+    cuts (file shortFile 2 (times 2)) identitySheet 0 ∷
+    cuts (file shortFile 4 (λ r c. pos 2 *ℤ chc r c)) chcSheet 1 ∷
+    cuts (file longFile 0 δ) identitySheet 0 ∷
+    cuts (file longFile 2 (times 2)) identitySheet 0 ∷
+    cuts (file longFile 4 (λ r c. pos 2 *ℤ chc r c)) chcSheet 1 ∷
+    cuts (file shortFile 28 (times 16384)) identitySheet 0 ∷
+    cuts (file longFile 28 (times 16384)) identitySheet 0 ∷
+    fileRefused (file shortFile 29 (times 16384)) 2 ∷
+    cuts (file longFile 29 (λ r c. pos 16384 *ℤ productOf (Cs ∷ []) .matrix r c)) csSheet 0 ∷
+    cuts (file longFile 60 (times (2 ^ 30))) identitySheet 0 ∷
+    fileRefused (file longFile 61 (times (2 ^ 30))) 2 ∷
+    fileRefused (file longFile 60 (replaced 5 (λ c. pos (2 ^ 30 + 1) *ℤ δ 5 c) (times (2 ^ 30)))) 3 ∷
+    fileRefused (file longFile 60 (replaced 5 (λ c. negsuc (2 ^ 31 - 1) *ℤ δ 5 c) (times (2 ^ 30)))) 3 ∷
+    fileRefused (file longFile 1 δ) 4 ∷
+    fileRefused (take 144 (file longFile 0 δ)) 1 ∷
+    fileRefused (file longFile 0 δ ++ 0 ∷ []) 1 ∷
+    fileRefused (take 73 (file longFile 0 δ)) 4 ∷
     sheetRefused (66 ∷ 13 ∷ 3 ∷ 1 ∷ 2 ∷ 3 ∷ 4 ∷ 5 ∷ 6 ∷ 0 ∷ []) 13 ∷
     sheetRefused (66 ∷ 3 ∷ 3 ∷ 1 ∷ 2 ∷ 3 ∷ 4 ∷ 5 ∷ 6 ∷ 0 ∷ []) 13 ∷
     sheetRefused (64 ∷ 1 ∷ 2 ∷ 3 ∷ 4 ∷ 5 ∷ 6 ∷ 2 ∷ []) 15 ∷
@@ -116,8 +145,10 @@ trials =
     sheetRefused (65 ∷ 1 ∷ 2 ∷ 3 ∷ 4 ∷ 5 ∷ 6 ∷ 0 ∷ []) 16 ∷
     sheetRefused (65 ∷ 0 ∷ 2 ∷ 3 ∷ 4 ∷ 5 ∷ 6 ∷ 0 ∷ []) 16 ∷
     sheetRefused (63 ∷ 1 ∷ 2 ∷ 3 ∷ 4 ∷ 5 ∷ 6 ∷ []) 10 ∷
-    sheetRefused (93 ∷ replicate 36 1) 10 ∷
-    fileRefused 0 (replaced 0 (λ c. negsuc 0 *ℤ δ 0 c) δ) 5 ∷
+    sheetRefused (125 ∷ replicate 68 1) 10 ∷
+    sheetRefused (124 ∷ replicate 67 1) 12 ∷
+    fileRefused (file shortFile 0 (replaced 0 (λ c. negsuc 0 *ℤ δ 0 c) δ)) 5 ∷
+    fileRefused (file longFile 0 (replaced 0 (λ c. negsuc 0 *ℤ δ 0 c) δ)) 5 ∷
     multiplies (Cs ∷ []) csSheet 0 ∷
     multiplies (Cs ∷ Cs ∷ []) (64 ∷ 2 ∷ 129 ∷ 6 ∷ 5 ∷ 132 ∷ 131 ∷ 0 ∷ []) 0 ∷
     multiplies (Cz ∷ []) (64 ∷ 2 ∷ 129 ∷ 6 ∷ 5 ∷ 132 ∷ 131 ∷ 0 ∷ []) 0 ∷
@@ -130,13 +161,14 @@ trials =
     orders 10 150 12 ∷
     orders 28 50 29 ∷
     orders 0 1000 0 ∷
-    orders 28 1000 56 ∷
+    orders 60 50 63 ∷
+    orders 60 1000 120 ∷
     orders 1 500 1 ∷
     orders 3 500 5 ∷
     walks δ 0 ∷
-    walks (λ r c. pos 2 *ℤ δ r c) 36 ∷
-    walks (replaced 5 (λ c. δ 5 c) (λ r c. pos 2 *ℤ δ r c)) 35 ∷
-    walks (replaced 1 (λ c. negsuc 0 *ℤ δ 1 c) (λ r c. pos 2 *ℤ δ r c)) 7 ∷
+    walks (times 2) 36 ∷
+    walks (replaced 5 (λ c. δ 5 c) (times 2)) 35 ∷
+    walks (replaced 1 (λ c. negsuc 0 *ℤ δ 1 c) (times 2)) 7 ∷
     takes threeBundled 0 identitySheet ∷
     takes threeBundled 1 csSheet ∷
     takes threeBundled 2 chcSheet ∷
@@ -153,5 +185,5 @@ trials =
     bundles [] (0 ∷ 0 ∷ []) ∷
     bundles threeSheets threeBundled ∷
     sheetsRefused (threeSheets ++ 64 ∷ 1 ∷ 2 ∷ 3 ∷ 4 ∷ 5 ∷ 6 ∷ []) 21 ∷
-    sheetsRefused (93 ∷ replicate 36 1) 21 ∷
+    sheetsRefused (125 ∷ replicate 68 1) 21 ∷
     []

@@ -6,7 +6,7 @@ use Prim.Native.Nat.{ℕ, _/_, _%_}
 use lib.Dec.{eqb}
 use lib.IntN.{ℤ, pos, negsuc}
 use Rattle.matrix.specs.List.{sameList}
-use Rattle.file.specs.File.{bits16}
+use Rattle.file.specs.File.{shortFile, highestOf, bitsOf}
 use Rattle.letter.specs.declared.Gate.{Gate}
 use Rattle.letter.specs.declared.Gate.the-variants.{H1, H2, S1, S2, Cz, Cs}
 use Rattle.letter.specs.Gate.{letter}
@@ -27,7 +27,7 @@ over k zs = record { exponent = k; entries = zs }
 
 -- their bytes
 abbrev bytes16 : ℤ → List ℕ
-bytes16 x = bits16 x % 256 ∷ bits16 x / 256 ∷ []
+bytes16 x = let u = bitsOf (highestOf shortFile) x in u % 256 ∷ u / 256 ∷ []
 
 abbrev entryBytes : List Gaussian → List ℕ
 entryBytes [] = []
@@ -97,7 +97,7 @@ unconjugated = l ∷ l ∷ unit ∷ o ∷ l ∷ m ∷ o ∷ unit ∷ o ∷ j ∷
 
 -- ---- the tables
 
--- the six plain gates, by source 001, and `CHC`; refused: an entry alone, k 14, an entry of 2 with k 0, the same with k 2, where it is not too large, and
+-- the six plain gates, by source 001, and `CHC`; refused: an entry alone, k 30, k 29, where the entries are too small, an entry of 2 with k 0, the same with k 2, where it is not too large, and
 -- rows that are orthonormal if no conjugate is taken
 unfoldable pub matrices : List Trial
 matrices =
@@ -110,7 +110,8 @@ matrices =
     multiplies (Cs ∷ []) (over 0 (diagonal l l l unit)) ∷
     multiplies (Cs ∷ H1 ∷ Cs ∷ []) (over 1 chc) ∷
     refuses (0 ∷ entryBytes (l ∷ [])) 17 ∷
-    refuses (bytesOf (over 14 one)) 17 ∷
+    refuses (bytesOf (over 30 one)) 17 ∷
+    refuses (bytesOf (over 29 one)) 19 ∷
     refuses (bytesOf (over 0 (diagonal (real (pos 2)) l l l))) 18 ∷
     refuses (bytesOf (over 2 (diagonal (real (pos 2)) l l l))) 19 ∷
     refuses (bytesOf (over 0 unconjugated)) 19 ∷

@@ -9,14 +9,14 @@ use lib.ListN.{length, getD}
 use lib.Signed.{leZ}
 use Rattle.matrix.specs.Range.{every, tabulate}
 use Rattle.matrix.specs.Matrix.{δ}
-use Rattle.file.specs.File.{fileExponent, fileEntry}
+use Rattle.file.specs.File.{shortFile, fileExponent, entryOf}
 use Rattle.gaussian.specs.Gaussian.{real, normOf, Matrix, product, adjoint, equals}
 use Rattle.unitary.specs.Unitary.{Quotient, quotient, matrixOf}
 use Rattle.unitary_file.specs.declared.Entries.{Entries}
 
--- "an exponent k from 0 to 13"
+-- "an exponent k from 0 to" 29: "P5's exponent, and with it 17, rises to 29" (document 02, P10)
 abbrev pub largestUnitary : ℕ
-largestUnitary = 13
+largestUnitary = 29
 
 -- "Accept 65 bytes"
 abbrev pub unitaryLength : ℕ
@@ -24,7 +24,7 @@ unitaryLength = 65
 
 -- "16 Gaussian integers row by row, real then imaginary part, 16 bits each, low byte first, two's complement"
 unfoldable pub unitaryEntries : List ℕ → List ℤ
-unitaryEntries b = tabulate (fileEntry b) 0 32
+unitaryEntries b = tabulate (entryOf shortFile b) 0 32
 
 -- the unitary of 65 bytes
 abbrev pub unitaryOf : List ℕ → Quotient
@@ -50,7 +50,7 @@ isUnitary k N = every 16 (λ p. unitaryAt (pos (2 ^ k)) N (p / 4) (p % 4))
 abbrev pub entriesRefusal : Quotient → ℕ
 entriesRefusal U = cond (not (isSmall (U .exponent) (U .matrix))) 18 (cond (not (isUnitary (U .exponent) (U .matrix))) 19 0)
 
--- all of its refusals, "in that order": "17, wrong length or k above 13", then those for its entries. 0 is none
+-- all of its refusals, "in that order": "17, wrong length or k above" 29, then those for its entries. 0 is none
 unfoldable pub unitaryRefusal : List ℕ → ℕ
 unitaryRefusal b = cond (not (eqb (length b) unitaryLength) || ltb largestUnitary (fileExponent b)) 17 (entriesRefusal (unitaryOf b))
 

@@ -12,7 +12,7 @@ ghost use Rattle.unitary_file.specs.Unitary.{Narrow, ReadAs, isSmall, is
 pub const UNITARY_LENGTH: usize = 65;
 
 // The largest exponent that they may carry.
-pub const LARGEST_UNITARY: u8 = 13;
+pub const LARGEST_UNITARY: u8 = 29;
 
 // What the bytes give: the number of a refusal, or 0 with the exponent and the entries, row by row, real then imaginary part.
 pub struct Entries {
@@ -41,7 +41,7 @@ fn decode(bytes: &[u8]) -> [i64; 32]
     let mut n = [0i64; 32];
     let mut i = 0usize;
     while i < 32 {
-        n[i] = file::entry_at(bytes, i);
+        n[i] = file::short_entry(bytes, i);
         i += 1;
     }
     n
@@ -146,7 +146,7 @@ fn is_unitary(k: u8, n: &[i64; 32]) -> bool
 }
 
 // The refusal of a unitary's bytes, or its exponent and entries.
-// Wrong, and refused: 19 before 18; 18 for whatever is not unitary; an exponent of 14 taken in.
+// Wrong, and refused: 19 before 18; 18 for whatever is not unitary; an exponent of 30 taken in.
 pub fn read_unitary(bytes: &[u8]) -> Entries
     ensures { λ r. ⌜ ReadAs (now (bytes .entry)) r ⌝ }
 {

@@ -10,7 +10,7 @@ use borrow.Author.Tests.{not-true, not-false}
 use Rattle.matrix.specs.Matrix.{entry}
 use Rattle.matrix.specs.Operator.{operator}
 use Rattle.matrix.specs.Array.{isWithin, isOrthogonal}
-use Rattle.matrix.specs.Laws.Array.{orthogonal-sound}
+use Rattle.matrix.specs.Laws.Array.{orthogonal-sound, within-bounded}
 use Rattle.clifford.specs.Columns.{isEven}
 use Rattle.acceptance.specs.declared.Cut.{Cut}
 use Rattle.acceptance.specs.Acceptance.{isProper, entriesRefusal}
@@ -40,7 +40,9 @@ returns : tie.Need-returns
 returns c = rw (sym (c .before .before .is-within .ensures) ∙ not-true _ (c .before .if1 .taken)) (refused-as _ (omega arith) (c .refused .ensures))
 
 is-orthogonal-requires : tie.Need-is-orthogonal-requires
-is-orthogonal-requires c κs = search needs
+is-orthogonal-requires c κs =
+    let s = c .before .before in
+    (s .pre .0, within-bounded _ 30 _ (sym (c .before .is-within .ensures) ∙ not-false _ (c .if1 .left)) (omega (arith, s .pre .0)))
 
 refused-requires-2 : tie.Need-refused-requires-2
 refused-requires-2 c κs = search needs

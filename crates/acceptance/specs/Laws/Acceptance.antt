@@ -4,14 +4,16 @@ use mathlib.Core.Bool.{Bool, true, false, not, cond}
 use mathlib.Core.List.{List}
 use Prim.Native.Nat.{ℕ, _≤_}
 use native.Mathlib.Omega.{arith}
-use lib.Dec.{eqb, ltb}
+use lib.Dec.{ltb}
 use lib.ListN.{length}
-use borrow.Author.Tests.{eqb-true, ltb-false, eq-eqb, le-ltb}
-use Rattle.matrix.specs.Operator.{Operator, Orthogonal, Proper}
+use borrow.Author.Tests.{ltb-false, le-ltb}
+use Rattle.matrix.specs.Operator.{Operator, SameOperator, Orthogonal, Proper}
 use Rattle.matrix.specs.Array.{isWithin, isOrthogonal}
-use Rattle.matrix.specs.Laws.Test.{T-true, true-T}
-use Rattle.matrix.specs.Laws.Array.{orthogonal-sound, orthogonal-complete, within-orthogonal}
-use Rattle.file.specs.File.{largestExponent, fileLength, fileExponent, fileOperator}
+use Rattle.matrix.specs.Laws.Test.{T-true, true-T, same-test}
+use Rattle.matrix.specs.Laws.Operator.{same-operator-sym, same-proper}
+use Rattle.matrix.specs.Laws.Array.{orthogonal-sound, orthogonal-complete, within-orthogonal, same-within, same-is-orthogonal}
+use Rattle.file.specs.File.{Kind, shortFile, longFile, largestExponent, exponentOf, isLength, kindOf, fileExponent, fileOperator, InForm}
+use Rattle.file.specs.Laws.File.{is-length, length-is}
 use Rattle.acceptance.specs.Acceptance.{isProper, entriesRefusal, fileRefusal}
 
 pub record Entries (A : Operator) : Type 0 where
@@ -31,21 +33,38 @@ pub entries-complete : (A : Operator) → Entries A → entriesRefusal A ≡ 0
 entries-complete A a =
     rw (within-orthogonal (A .exponent) (A .matrix) (a .orthogonal), orthogonal-complete (A .exponent) (A .matrix) (a .orthogonal), T-true (isProper (A .matrix)) (a .proper .positive .lt))
 
+-- operators that stand for the same matrix earn the same refusal
+pub same-entries : {A B : Operator} → SameOperator A B → entriesRefusal A ≡ entriesRefusal B
+same-entries {A} {B} h = rw (same-within h, same-is-orthogonal h, same-test (isProper (A .matrix)) (isProper (B .matrix)) (pass h) (pass (same-operator-sym h))) refl
+  where
+    pass : {A B : Operator} → SameOperator A B → isProper (A .matrix) ≡ true → isProper (B .matrix) ≡ true
+    pass {A} {B} h e = T-true (isProper (B .matrix)) (same-proper {A = A} {B = B} h (record { positive = record { lt = true-T e } }) .positive .lt)
+
+-- ---- files
+
 pub record Accepted (b : List ℕ) : Type 0 where
-  pub long : length b ≡ fileLength
-  pub range : fileExponent b ≤ largestExponent
+  pub form : InForm b
   pub entries : Entries (fileOperator b)
+
+-- an exponent of either kind
+pub range-most : (b : List ℕ) → InForm b → fileExponent b ≤ largestExponent
+range-most b f = go (kindOf (length b)) (f .range)
+  where
+    go : (t : Kind) → fileExponent b ≤ exponentOf t → fileExponent b ≤ largestExponent
+    go shortFile h = omega arith
+    go longFile h = h
 
 pub accepted : (b : List ℕ) → fileRefusal b ≡ 0 → Accepted b
 unfolding fileRefusal
-accepted b e = go (eqb (length b) fileLength) refl (ltb largestExponent (fileExponent b)) refl e
+accepted b e = go (isLength (length b)) refl (ltb (exponentOf (kindOf (length b))) (fileExponent b)) refl e
   where
-    go : (a : Bool) → eqb (length b) fileLength ≡ a → (c : Bool) → ltb largestExponent (fileExponent b) ≡ c → _≡_ {A = ℕ} (cond (not a) 1 (cond c 2 (entriesRefusal (fileOperator b)))) 0 → Accepted b
-    go true l false r e = record { long = eqb-true _ _ l; range = ltb-false _ _ r; entries = entries-sound (fileOperator b) e }
+    go : (a : Bool) → isLength (length b) ≡ a → (c : Bool) → ltb (exponentOf (kindOf (length b))) (fileExponent b) ≡ c
+        → _≡_ {A = ℕ} (cond (not a) 1 (cond c 2 (entriesRefusal (fileOperator b)))) 0 → Accepted b
+    go true l false r e = record { form = record { size = length-is (length b) l; range = ltb-false _ _ r }; entries = entries-sound (fileOperator b) e }
     go true l true r e = absurd (omega arith)
     go false l c r e = absurd (omega arith)
 
 -- of a file of the right length with an exponent in range
-pub in-form : (b : List ℕ) → length b ≡ fileLength → fileExponent b ≤ largestExponent → fileRefusal b ≡ entriesRefusal (fileOperator b)
+pub in-form : (b : List ℕ) → InForm b → fileRefusal b ≡ entriesRefusal (fileOperator b)
 unfolding fileRefusal
-in-form b l r = rw (eq-eqb _ _ l, le-ltb _ _ r)
+in-form b f = rw (is-length (length b) (f .size), le-ltb (exponentOf (kindOf (length b))) (fileExponent b) (f .range))

@@ -1,14 +1,12 @@
 -- The sign of what remains tells whether the operator is proper: "A cut keeps its sign, so the remaining Clifford shows it."
-use mathlib.Core.Path.{_≡_, refl, subst}
-use mathlib.Core.Bool.{Bool, true, false}
+use mathlib.Core.Path.{_≡_, refl}
 use mathlib.Core.List.{List}
 use Prim.Native.Nat.{ℕ, _≤_}
 use native.Mathlib.Omega.{arith}
-use lib.Dec.{T}
 use lib.IntN.{ℤ}
 use Rattle.matrix.specs.Matrix.{entry}
 use Rattle.matrix.specs.Operator.{operator, SameOperator, Orthogonal}
-use Rattle.matrix.specs.Laws.Test.{T-true, true-T}
+use Rattle.matrix.specs.Laws.Test.{T-true, true-T, same-test}
 use Rattle.matrix.specs.Laws.Operator.{same-operator-of, same-operator-sym, same-proper}
 use Rattle.clifford.specs.Columns.{columnsMatrix, columnBytes, isEven}
 use Rattle.clifford.specs.Laws.Columns.{Permutation, matrix-permutation, matrix-columns}
@@ -25,20 +23,13 @@ module _ (k : ℕ) (m : List ℤ) (o : Orthogonal (operator k (entry m))) where
   columns-same = same-operator-of _ _ refl (matrix-columns (entry (remaining k m)) (cutting k m o .orthogonal))
 
   pub even-is-proper : isEven (columnBytes (entry (remaining k m))) ≡ isProper (entry m)
-  even-is-proper = go (isEven (columnBytes (entry (remaining k m)))) refl (isProper (entry m)) refl
+  even-is-proper =
+      same-test _ _
+      (λ e. T-true _ (cutting k m o .proper (same-proper columns-same (even-proper _ perm e)) .positive .lt))
+      (λ f. proper-even _ perm (same-proper (same-operator-sym columns-same) (cutting k m o .clifford (record { positive = record { lt = true-T f } }) .proper)))
     where
       perm : Permutation (columnBytes (entry (remaining k m)))
       perm = matrix-permutation (entry (remaining k m)) (cutting k m o .orthogonal)
-
-      both : {x a b : Bool} → x ≡ true → x ≡ false → a ≡ b
-      both p q = absurd (subst T q (true-T p))
-
-      go : (a : Bool) → isEven (columnBytes (entry (remaining k m))) ≡ a → (b : Bool) → isProper (entry m) ≡ b → a ≡ b
-      go true e true f = refl
-      go false e false f = refl
-      go true e false f = both (T-true _ (cutting k m o .proper (same-proper columns-same (even-proper _ perm e)) .positive .lt)) f
-      go false e true f =
-          both (proper-even _ perm (same-proper (same-operator-sym columns-same) (cutting k m o .clifford (record { positive = record { lt = true-T f } }) .proper))) e
 
 -- a refusal leaves the rest open
 pub refused-as : {n k : ℕ} {m : List ℤ} (r : Cut) → 1 ≤ n → r .refusal ≡ n → CutAs n k m r

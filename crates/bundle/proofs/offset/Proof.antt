@@ -4,7 +4,7 @@ use Prim.Native.Nat.{_+_, _*_, _-_}
 use denote.Ref.{now}
 use lib.ListN.{length}
 use borrow.Author.Needs.{needs}
-use Rattle.bundle.specs.Bundle.{twoAt}
+use Rattle.file.specs.File.{twoAt}
 use Rattle.bundle.proofs.offset.Statement.{statement}
 use Rattle.bundle.proofs.offset.Tie as tie
 

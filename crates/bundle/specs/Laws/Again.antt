@@ -6,7 +6,8 @@ use native.Mathlib.Omega.{arith}
 use lib.ListN.{length, getD, take, drop, take-append-drop}
 use lib.Seq.{getD-take, drop-cons, drop-length}
 use Rattle.matrix.specs.Range.{tabulate}
-use Rattle.bundle.specs.Bundle.{twoAt, sheetCount, trailerStart, startOf, sheetIn, twoBytes, offsets, bundleOf}
+use Rattle.file.specs.File.{twoAt}
+use Rattle.bundle.specs.Bundle.{sheetCount, trailerStart, startOf, sheetIn, twoBytes, offsets, bundleOf}
 use Rattle.bundle.specs.Laws.Read.{Bundled, start-le, parts-end-to-end}
 
 module _ (b : List ℕ) (byte : (i : ℕ) → getD b i 0 < 256) (h : Bundled b) where

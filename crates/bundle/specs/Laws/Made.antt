@@ -13,7 +13,8 @@ use Rattle.matrix.specs.Laws.Range.{length-tabulate, getD-tabulate}
 use Rattle.sheet_bytes.specs.Bytes.{shortest, longest}
 use Rattle.sheet_bytes.specs.Sheet.{Counted, sheetRefusal}
 use Rattle.sheet_bytes.specs.Laws.Count.{Each, first-end, told-apart}
-use Rattle.bundle.specs.Bundle.{mostSheets, twoAt, sheetCount, trailerLength, trailerStart, startOf, bundleRefusal, sheetIn, twoBytes, offsets, bundleOf}
+use Rattle.file.specs.File.{twoAt}
+use Rattle.bundle.specs.Bundle.{mostSheets, sheetCount, trailerLength, trailerStart, startOf, bundleRefusal, sheetIn, twoBytes, offsets, bundleOf}
 use Rattle.bundle.specs.Laws.Read.{Bundled, start-le, read-refusal, no-sheet-refusal, part-counted, parts-end-to-end}
 
 -- n sheets stand end to end in s, and nothing behind them

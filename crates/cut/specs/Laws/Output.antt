@@ -8,7 +8,7 @@ use native.Mathlib.Omega.{arith}
 use lib.ListN.{length, take, drop, length-append}
 use lib.Seq.{take-at, length-take-le}
 use borrow.Author.Tests.{eq-eqb, ne-eqb, le-ltb}
-use Rattle.file.specs.File.{written}
+use Rattle.file.specs.File.{largestExponent, written}
 use Rattle.sheet_bytes.specs.Bytes.{shortest, longest}
 use Rattle.acceptance.specs.Acceptance.{fileRefusal}
 use Rattle.acceptance.specs.Cutting.{fileCount, fileLoose}
@@ -22,11 +22,11 @@ use Rattle.cut.specs.Output.{cutText}
 
 -- after a count and L
 pub record Counted (b new : List ℕ) (t l : ℕ) : Type 0 where
-  pub small : t ≤ 28
+  pub small : t ≤ largestExponent
   pub long : t + shortest ≤ length new
   pub text : cutText b ≡ countLine t ++ sheetLine (take (t + shortest) new) ++ looseLine l
   -- room for the three lines
-  pub room : length (countLine t) + length (sheetLine (take (t + shortest) new)) + length (looseLine l) ≤ 256
+  pub room : length (countLine t) + length (sheetLine (take (t + shortest) new)) + length (looseLine l) ≤ 512
 
 module _ (b old new : List ℕ) (a : Cuts) (room : longest ≤ length old) (p : SheetPromise b old new a) where
   module _ (z : fileRefusal b ≡ 0) where

@@ -10,7 +10,7 @@ use lib.Dec.{eqb, ltb}
 use lib.ListN.{length}
 use borrow.Author.Tests.{eqb-true, eqb-false}
 use Rattle.file.specs.declared.Answer.the-variants.{Count, Refused}
-use Rattle.file.specs.File.{largestExponent, fileLength}
+use Rattle.file.specs.File.{largestExponent, lengthFor}
 use Rattle.letter.specs.declared.Gate.{Gate}
 use Rattle.letter.specs.declared.Letter.{Letter}
 use Rattle.letter.specs.declared.Letter.the-variants.{Is, Unknown}
@@ -69,7 +69,7 @@ sheet-not-zero b n =
 
 pub sheet-operator-not-zero : (s : List ℕ) (n : ℕ) → sheet.operatorAnswer s n ≢ Refused 0
 unfolding sheet.operatorAnswer
-sheet-operator-not-zero s n = refused-or-short Refused refused-apart _ (count-none (sheetLeast s .exponent)) (sheetRefusal s) (ltb n fileLength)
+sheet-operator-not-zero s n = refused-or-short Refused refused-apart _ (count-none (sheetLeast s .exponent)) (sheetRefusal s) (ltb n (lengthFor (sheetLeast s .exponent)))
 
 pub order-not-zero : (t p : ℕ) → orderAnswer t p ≢ Refused 0
 unfolding orderAnswer
@@ -90,7 +90,7 @@ module _ (n : ℕ) where
 
   read-from : (w : List Gate) (bs : List ℕ) → reading.operatorAnswer n (reading.readFrom w bs) ≢ Refused 0
   unfolding reading.readFrom
-  read-from w [] = chosen Refused refused-apart _ (count-none (reading.leastOf w .exponent)) (ltb n fileLength) 6 (λ z. omega arith)
+  read-from w [] = chosen Refused refused-apart _ (count-none (reading.leastOf w .exponent)) (ltb n (lengthFor (reading.leastOf w .exponent))) 6 (λ z. omega arith)
   read-from w (b ∷ bs) = read-letter w (λ v. reading.readFrom v bs) (gateOf b) (λ v. read-from v bs)
 
   pub gates-operator-not-zero : (bs : List ℕ) → reading.operatorAnswer n (reading.reading bs) ≢ Refused 0

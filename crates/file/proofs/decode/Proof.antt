@@ -3,15 +3,16 @@ use mathlib.Core.Path.{_≡_, refl, _∙_}
 use Prim.Native.Nat.{_-_, _≤_}
 use native.Mathlib.Omega.{arith}
 use lib.IntN.{pos}
+use lib.ListN.{length}
 use Rattle.matrix.specs.Laws.Range.{Filled, filled-none, filled-more, filled-all}
 use Rattle.matrix.specs.Laws.Machine.{kept}
-use Rattle.file.specs.File.{fileEntry, fileMatrix}
+use Rattle.file.specs.File.{entryOf, fileMatrix, kindOf}
 use borrow.Author.Needs.{needs}
 use Rattle.file.proofs.decode.Statement.{statement}
 use Rattle.file.proofs.decode.Tie as tie
 
 abbrev Inv-loop : tie.InvT-loop
-Inv-loop bytes m₀ n₀ m n = (n ≤ 36) × Filled (pos 0) (fileEntry bytes) m₀ n m
+Inv-loop bytes m₀ n₀ m n = (n ≤ 36) × Filled (pos 0) (entryOf (kindOf (length bytes)) bytes) m₀ n m
 
 abbrev μ-loop : tie.MeasureT-loop
 μ-loop bytes m₀ n₀ m n = 36 - n

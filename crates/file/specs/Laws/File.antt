@@ -1,81 +1,141 @@
 -- Reading back what was written, and the sizes that the arithmetic on a file's entries needs.
-use mathlib.Core.Path.{_≡_, sym, ap, ap₂, _∙_}
+use mathlib.Core.Path.{_≡_, refl, sym, ap, ap₂, subst, _∙_}
+use mathlib.Core.Bool.{Bool, true, false, cond, _||_}
 use mathlib.Core.List.{List}
 use Prim.Native.Nat.{ℕ, _+_, _*_, _/_, _%_, _^_, _<_, _≤_}
 use native.Mathlib.Omega.{arith}
+use lib.Dec.{eqb, ltb}
 use lib.IntN.{ℤ, pos, natAbs}
 use lib.ListN.{length, getD}
+use borrow.Author.Tests.{eqb-true, ltb-true, ltb-false, le-ltb}
 use Rattle.matrix.specs.Matrix.{entry}
 use Rattle.matrix.specs.Operator.{operator, Orthogonal}
 use Rattle.matrix.specs.Array.{Bounded}
+use Rattle.matrix.specs.Laws.Test.{true-T}
 use Rattle.matrix.specs.Laws.Range.{length-tabulate, getD-tabulate, tabulate-is}
-use Rattle.matrix.specs.Laws.Machine.{mag-le}
 use Rattle.matrix.specs.Laws.Array.{entry-flat, orthogonal-bounded}
-use Rattle.file.specs.File.{largestExponent, fileLength, fileExponent, signed16, fileEntry, fileMatrix, fileOperator, Short, bits16, fileByte, fileOf}
-use Rattle.file.specs.Laws.Bytes.{signed16-bits16, signed16-size, low-byte, high-byte}
+use Rattle.file.specs.File.{Kind, shortFile, longFile, shortLength, longLength, shortExponent, largestExponent, lengthOf, exponentOf, widthOf, highestOf, isLength, kindOf, kindFor, fileExponent, signedOf, entryOf, fileMatrix, fileOperator, InForm, Fits, bitsOf, fileByte, lengthFor, fileOf}
+use Rattle.file.specs.Laws.Bytes.{bits-lt, signed-bits, signed-size, bytes-entry, file-byte, entry-lt}
+
+-- ---- the kind of a file
+
+pub kind-of-length : (t : Kind) → kindOf (lengthOf t) ≡ t
+kind-of-length shortFile = refl
+kind-of-length longFile = refl
+
+-- the length of a file that may have it is that of its kind, and the other way round
+pub is-length : (n : ℕ) → n ≡ lengthOf (kindOf n) → isLength n ≡ true
+is-length n = go (eqb n longLength) refl
+  where
+    go : (t : Bool) → eqb n longLength ≡ t → n ≡ lengthOf (cond t longFile shortFile) → isLength n ≡ true
+    go true e l = subst (λ n. isLength n ≡ true) (sym (eqb-true n longLength e)) refl
+    go false e l = subst (λ n. isLength n ≡ true) (sym l) refl
+
+pub length-is : (n : ℕ) → isLength n ≡ true → n ≡ lengthOf (kindOf n)
+length-is n = go (eqb n shortLength) refl (eqb n longLength) refl
+  where
+    go : (s : Bool) → eqb n shortLength ≡ s → (l : Bool) → eqb n longLength ≡ l → (s || l) ≡ true → n ≡ lengthOf (cond l longFile shortFile)
+    go s p true q e = eqb-true _ _ q
+    go true p false q e = eqb-true _ _ p
+    go false p false q e = absurd (true-T e)
+
+-- what holds of the kind that k calls for: the two cases
+pub for-kind : (P : Kind → Type 0) (k : ℕ) → (k ≤ shortExponent → P shortFile) → (shortExponent < k → P longFile) → P (kindFor k)
+for-kind P k s l = go (ltb shortExponent k) refl
+  where
+    go : (t : Bool) → ltb shortExponent k ≡ t → P (cond t longFile shortFile)
+    go true e = l (ltb-true shortExponent k e)
+    go false e = s (ltb-false shortExponent k e)
+
+pub kind-range : (k : ℕ) → k ≤ largestExponent → k ≤ exponentOf (kindFor k)
+kind-range k h = for-kind (λ t. k ≤ exponentOf t) k (λ s. s) (λ l. h)
+
+pub length-most : (k : ℕ) → lengthFor k ≤ longLength
+length-most k = for-kind (λ t. lengthOf t ≤ longLength) k (λ s. omega arith) (λ l. omega arith)
+
+-- "is what we write when it suffices"
+pub short-for : (k : ℕ) → k ≤ shortExponent → lengthFor k ≡ shortLength
+short-for k h = rw (le-ltb shortExponent k h)
+
+-- the places of an entry's bytes are in the file
+places : (t : Kind) (n j : ℕ) → n < 36 → j < widthOf t → 1 + (widthOf t * n + j) < lengthOf t
+places shortFile n j h l = omega arith
+places longFile n j h l = omega arith
+
+pub some-byte : (t : Kind) → 0 < lengthOf t
+some-byte shortFile = omega arith
+some-byte longFile = omega arith
 
 -- ---- reading back
 
 module _ (k : ℕ) (m : List ℤ) where
-  pub length-file : length (fileOf k m) ≡ fileLength
+  pub length-file : length (fileOf k m) ≡ lengthFor k
   unfolding fileOf
-  length-file = length-tabulate (fileByte k m) 0 fileLength
+  length-file = length-tabulate (fileByte (kindFor k) k m) 0 (lengthFor k)
 
-  byte-at : (p : ℕ) → p < fileLength → getD (fileOf k m) p 0 ≡ fileByte k m p
+  pub kind-back : kindOf (length (fileOf k m)) ≡ kindFor k
+  kind-back = ap kindOf length-file ∙ kind-of-length (kindFor k)
+
+  byte-at : (p : ℕ) → p < lengthFor k → getD (fileOf k m) p 0 ≡ fileByte (kindFor k) k m p
   unfolding fileOf
-  byte-at p h = let e : 0 + p ≡ p = omega arith in getD-tabulate (fileByte k m) 0 fileLength p 0 h ∙ ap (fileByte k m) e
+  byte-at p h = let e : 0 + p ≡ p = omega arith in getD-tabulate (fileByte (kindFor k) k m) 0 (lengthFor k) p 0 h ∙ ap (fileByte (kindFor k) k m) e
 
   pub exponent-back : fileExponent (fileOf k m) ≡ k
-  exponent-back = byte-at 0 (omega arith)
+  exponent-back = byte-at 0 (some-byte (kindFor k))
 
-  entry-back : Short m → (n : ℕ) → n < 36 → fileEntry (fileOf k m) n ≡ getD m n (pos 0)
+  entry-back : Fits (kindFor k) m → (n : ℕ) → n < 36 → entryOf (kindOf (length (fileOf k m))) (fileOf k m) n ≡ getD m n (pos 0)
   entry-back s n h =
-      let u = bits16 (getD m n (pos 0)) in
-      let e : u % 256 + 256 * (u / 256) ≡ u = omega arith in
-      let l = byte-at (1 + 2 * n) (omega arith) ∙ low-byte k m n in
-      let g = byte-at (2 + 2 * n) (omega arith) ∙ high-byte k m n in
-      ap₂ (λ x y. signed16 (x + 256 * y)) l g ∙ ap signed16 e ∙ signed16-bits16 (getD m n (pos 0)) (s .short n h)
+      let t = kindFor k in
+      let x = getD m n (pos 0) in
+      let f = s .below n h in
+      let e = bytes-entry t (fileOf k m) n (bitsOf (highestOf t) x) (bits-lt (highestOf t) x f) (λ j l. byte-at (1 + (widthOf t * n + j)) (places t n j h l) ∙ file-byte t k m n j l) in
+      ap (λ t. entryOf t (fileOf k m) n) kind-back ∙ ap (signedOf (highestOf t)) e ∙ signed-bits (highestOf t) x f
 
-  pub matrix-back : Short m → length m ≡ 36 → fileMatrix (fileOf k m) ≡ m
+  pub matrix-back : Fits (kindFor k) m → length m ≡ 36 → fileMatrix (fileOf k m) ≡ m
   unfolding fileMatrix
-  matrix-back s l = sym (tabulate-is (fileEntry (fileOf k m)) 36 (pos 0) m l (λ n h. sym (entry-back s n h)))
+  matrix-back s l = sym (tabulate-is (entryOf (kindOf (length (fileOf k m))) (fileOf k m)) 36 (pos 0) m l (λ n h. sym (entry-back s n h)))
+
+  pub file-in-form : k ≤ largestExponent → InForm (fileOf k m)
+  file-in-form h = record {
+    size = length-file ∙ ap lengthOf (sym kind-back);
+    range = rw (exponent-back, kind-back) (kind-range k h);
+  }
 
 -- ---- what is read
 
 pub length-file-matrix : (b : List ℕ) → length (fileMatrix b) ≡ 36
 unfolding fileMatrix
-length-file-matrix b = length-tabulate (fileEntry b) 0 36
+length-file-matrix b = length-tabulate (entryOf (kindOf (length b)) b) 0 36
 
 module _ (b : List ℕ) (bytes : (i : ℕ) → getD b i 0 < 256) where
-  pub entry-size : (n : ℕ) → natAbs (fileEntry b n) ≤ 2 ^ 15
-  entry-size n =
-      let x = bytes (1 + 2 * n) in
-      let y = bytes (2 + 2 * n) in
-      signed16-size (getD b (1 + 2 * n) 0 + 256 * getD b (2 + 2 * n) 0) (omega arith)
+  pub entry-size : (t : Kind) (n : ℕ) → natAbs (entryOf t b n) ≤ highestOf t
+  entry-size t n = signed-size (highestOf t) _ (entry-lt t b bytes n)
 
-  pub file-entry-size : (n : ℕ) → n < 36 → natAbs (getD (fileMatrix b) n (pos 0)) ≤ 2 ^ 15
+  largest : (t : Kind) (n : ℕ) → natAbs (entryOf t b n) ≤ 2 ^ 31
+  largest shortFile n = let h = entry-size shortFile n in omega arith
+  largest longFile n = entry-size longFile n
+
+  -- small enough to be squared
+  pub file-bounded : Bounded (2 ^ 31) (entry (fileMatrix b))
   unfolding fileMatrix
-  file-entry-size n h =
-      let e : 0 + n ≡ n = omega arith in
-      rw (getD-tabulate (fileEntry b) 0 36 n (pos 0) h, e) (entry-size n)
-
-  -- small enough for the arithmetic of crate `matrix`
-  pub file-bounded : Bounded (2 ^ 30) (entry (fileMatrix b))
-  file-bounded = record { size = λ r c hr hc. let h = file-entry-size (r * 6 + c) (omega arith) in omega arith }
+  file-bounded = record {
+    size = λ r c hr hc.
+        rw (getD-tabulate (entryOf (kindOf (length b)) b) 0 36 (r * 6 + c) (pos 0) (omega arith)) (largest (kindOf (length b)) (0 + (r * 6 + c)));
+  }
 
 -- ---- what can be written
 
-pub bounded-short : (m : List ℤ) → Bounded (2 ^ 14) (entry m) → Short m
-bounded-short m s = record {
-  short = λ n h.
-      let p = mag-le (getD m n (pos 0)) in
-      let q : natAbs (getD m n (pos 0)) ≤ 2 ^ 14 = rw entry-flat at (s .size (n / 6) (n % 6) (omega arith) (omega arith)) in
-      record { sfits = omega arith };
+bounded-fits : (t : Kind) (b : ℕ) (m : List ℤ) → b < highestOf t → Bounded b (entry m) → Fits t m
+bounded-fits t b m h s = record {
+  below = λ n l. let q : natAbs (getD m n (pos 0)) ≤ b = rw entry-flat at (s .size (n / 6) (n % 6) (omega arith) (omega arith)) in omega arith;
 }
 
 -- every operator that a file may carry
-pub orthogonal-short : (k : ℕ) (m : List ℤ) → k ≤ largestExponent → Orthogonal (operator k (entry m)) → Short m
-orthogonal-short k m h o = bounded-short m (orthogonal-bounded k 14 (entry m) o (omega arith))
+pub orthogonal-fits : (k : ℕ) (m : List ℤ) → k ≤ largestExponent → Orthogonal (operator k (entry m)) → Fits (kindFor k) m
+orthogonal-fits k m h o =
+    for-kind (λ t. Fits t m) k
+    (λ s. bounded-fits shortFile (2 ^ 14) m (omega arith) (orthogonal-bounded k 14 (entry m) o (omega arith)))
+    (λ l. bounded-fits longFile (2 ^ 30) m (omega arith) (orthogonal-bounded k 30 (entry m) o (omega arith)))
 
 pub operator-back : (k : ℕ) (m : List ℤ) → k ≤ largestExponent → Orthogonal (operator k (entry m)) → length m ≡ 36 → fileOperator (fileOf k m) ≡ operator k (entry m)
-operator-back k m h o l = ap₂ (λ x y. operator x (entry y)) (exponent-back k m) (matrix-back k m (orthogonal-short k m h o) l)
+operator-back k m h o l = ap₂ (λ x y. operator x (entry y)) (exponent-back k m) (matrix-back k m (orthogonal-fits k m h o) l)

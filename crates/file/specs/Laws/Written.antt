@@ -8,8 +8,20 @@ use native.Mathlib.Omega.{arith}
 use lib.ListN.{length, getD, set, take, drop, length-append, length-drop, List·getD-append}
 use lib.Seq.{ext-getD, drop-set-lt, getD-append-add, getD-drop, paste, paste-zero, length-paste, take-paste, drop-paste, take-length, drop-drop, set-split, append-snoc}
 use Rattle.matrix.specs.Range.{tabulate}
-use Rattle.matrix.specs.Laws.Range.{Filled, length-tabulate, getD-tabulate}
+use Rattle.matrix.specs.Laws.Range.{Filled, length-tabulate, getD-tabulate, tabulate-is}
 use Rattle.file.specs.File.{written, Appended}
+
+-- a table and what continues it
+pub tabulate-more : (f : ℕ → ℕ) (n : ℕ) (bs : List ℕ) → ((i : ℕ) → i < length bs → getD bs i 0 ≡ f (n + i)) → tabulate f 0 n ++ bs ≡ tabulate f 0 (n + length bs)
+tabulate-more f n bs h =
+    tabulate-is f (n + length bs) 0 (tabulate f 0 n ++ bs) (length-append (tabulate f 0 n) bs ∙ ap (λ x. x + length bs) (length-tabulate f 0 n)) (λ i l. at i l (decLt i n))
+  where
+    at : (i : ℕ) → i < n + length bs → Dec (i < n) → getD (tabulate f 0 n ++ bs) i 0 ≡ f i
+    at i l (yes p) = List·getD-append (tabulate f 0 n) bs 0 i (rw (length-tabulate f 0 n) p) ∙ getD-tabulate f 0 n i 0 p ∙ ap f (omega arith)
+    at i l (no p) =
+        let e : n + (i - n) ≡ i = omega arith in
+        let k : length (tabulate f 0 n) + (i - n) ≡ i = ap (λ x. x + (i - n)) (length-tabulate f 0 n) ∙ e in
+        ap (λ x. getD (tabulate f 0 n ++ bs) x 0) (sym k) ∙ getD-append-add (tabulate f 0 n) bs (i - n) 0 ∙ h (i - n) (omega arith) ∙ ap f e
 
 -- what a loop that fills the front leaves
 pub filled-written : (f : ℕ → ℕ) (b₀ : List ℕ) (n : ℕ) (b : List ℕ) → Filled 0 f b₀ n b → n ≤ length b₀ → b ≡ written b₀ (tabulate f 0 n)

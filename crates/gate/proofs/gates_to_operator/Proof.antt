@@ -1,4 +1,4 @@
--- Each way out is a case of the definitions; the entries fit the file since the product is orthogonal with an exponent of at most 28.
+-- Each way out is a case of the definitions; the entries fit the file since the product is orthogonal with an exponent of at most 60.
 use mathlib.Core.Path.{_≡_, refl, sym, ap, ap₂, subst, _∙_}
 use mathlib.Core.Logic.{_≢_}
 use mathlib.Core.List.{List, []}
@@ -10,8 +10,8 @@ use borrow.Author.Needs.{needs}
 use borrow.Author.Tests.{lt-ltb, le-ltb}
 use Rattle.file.specs.declared.Answer.{Answer}
 use Rattle.file.specs.declared.Answer.the-variants.{Count, Refused}
-use Rattle.file.specs.File.{fileLength, fileOf, written, Short}
-use Rattle.file.specs.Laws.File.{orthogonal-short}
+use Rattle.file.specs.File.{kindFor, lengthFor, fileOf, written, Fits}
+use Rattle.file.specs.Laws.File.{orthogonal-fits}
 use Rattle.file.specs.declared.Read.{Read}
 use Rattle.gate.specs.Reading.{largestList, leastOf, Reading, gates, refusal, readFrom, reading, ReadAs, operatorAnswer, operatorBuffer}
 use Rattle.gate.specs.Promise.{ProductPromise}
@@ -39,17 +39,18 @@ module _ (old : List ℕ) (r : Read) where
   refused (gates w) p z = absurd (z (p .0))
   refused (refusal n) p z = (ap Refused (p .0), refl)
 
-  no-room : (x : Reading) → ReadAs x r → r .refusal ≡ 0 → length old < fileLength → Done old x (Refused 6) old
-  no-room (gates w) p z h = rw (lt-ltb (length old) fileLength h) (refl, refl)
+  no-room : (x : Reading) → ReadAs x r → r .refusal ≡ 0 → length old < lengthFor (r .exponent) → Done old x (Refused 6) old
+  no-room (gates w) p z h = rw (lt-ltb (length old) (lengthFor (leastOf w .exponent)) (subst (λ k. length old < lengthFor k) (p .1) h)) (refl, refl)
   no-room (refusal n) p z h = absurd (omega arith)
 
-  room : (x : Reading) (new : List ℕ) → ReadAs x r → r .refusal ≡ 0 → fileLength ≤ length old → new ≡ written old (fileOf (r .exponent) (r .matrix)) → Done old x (Count (r .exponent)) new
-  room (gates w) new p z h e = rw (le-ltb (length old) fileLength h) (ap Count (p .1), e ∙ ap₂ (λ k m. written old (fileOf k m)) (p .1) (p .2))
+  room : (x : Reading) (new : List ℕ) → ReadAs x r → r .refusal ≡ 0 → lengthFor (r .exponent) ≤ length old → new ≡ written old (fileOf (r .exponent) (r .matrix)) → Done old x (Count (r .exponent)) new
+  room (gates w) new p z h e =
+      rw (le-ltb (length old) (lengthFor (leastOf w .exponent)) (subst (λ k. lengthFor k ≤ length old) (p .1) h)) (ap Count (p .1), e ∙ ap₂ (λ k m. written old (fileOf k m)) (p .1) (p .2))
   room (refusal n) new p z h e = absurd (omega arith)
 
-  short : (x : Reading) → ReadAs x r → r .refusal ≡ 0 → Short (r .matrix)
-  short (gates w) p z = rw (p .2) (orthogonal-short (leastOf w .exponent) (leastOf w .matrix) (p .3) (least-of-orthogonal w))
-  short (refusal n) p z = absurd (omega arith)
+  fits : (x : Reading) → ReadAs x r → r .refusal ≡ 0 → Fits (kindFor (r .exponent)) (r .matrix)
+  fits (gates w) p z = rw (p .1, p .2) (orthogonal-fits (leastOf w .exponent) (leastOf w .matrix) (p .3) (least-of-orthogonal w))
+  fits (refusal n) p z = absurd (omega arith)
 
 -- of a list that is not too long
 of-list : (bs old : List ℕ) {a : Answer} {new : List ℕ} → length bs ≤ largestList → Done old (readFrom [] bs) a new → ProductPromise bs old new a
@@ -66,23 +67,33 @@ returns-2 c =
     let p = c .before .read-letters in
     of-list _ _ (omega arith) (refused _ (p .result) (readFrom [] (now (c .before .before .before .before .before .args .letters))) (p .ensures) (c .if2 .taken))
 
+length-for-requires : tie.Need-length-for-requires
+length-for-requires c κs = search needs
+
 returns-3 : tie.Need-returns-3
 returns-3 c =
-    let p = c .before .before .read-letters in
-    of-list _ _ (omega arith) (no-room _ (p .result) (readFrom [] (now (c .before .before .before .before .before .before .args .letters))) (p .ensures) (c .before .if2 .left) (c .if3 .taken))
+    let tested = c .before .before .before in
+    let p = tested .before .read-letters in
+    let e = c .before .length-for .ensures in
+    of-list _ _ (omega arith) (no-room _ (p .result) (readFrom [] (now (tested .before .before .before .before .before .args .letters))) (p .ensures) (tested .if2 .left) (omega (arith, c .if3 .taken)))
 
 encode-requires : tie.Need-encode-requires
 encode-requires c κs =
-    let p = c .before .before .before .before .read-letters in
-    (omega arith, short [] (p .result) (readFrom [] (now (c .before .before .before .before .before .before .before .before .args .letters))) (p .ensures) (c .before .before .before .if2 .left))
+    let tested = c .before .before .before .before in
+    let p = tested .before .read-letters in
+    let e = c .before .before .length-for .ensures in
+    (omega (arith, c .before .if3 .left), fits [] (p .result) (readFrom [] (now (tested .before .before .before .before .before .args .letters))) (p .ensures) (tested .if2 .left))
 
 same-length : tie.Need-same-length
 same-length c = search needs
 
 returns-4 : tie.Need-returns-4
 returns-4 c =
-    let p = c .before .before .before .before .before .before .before .read-letters in
-    of-list _ _ (omega arith) (room _ (p .result) (readFrom [] (now (c .before .before .before .before .before .before .before .before .before .before .before .args .letters))) _ (p .ensures) (c .before .before .before .before .before .before .if2 .left) (omega arith) (c .before .before .encode .ensures))
+    let room-left = c .before .before .before .before in
+    let tested = room-left .before .before .before in
+    let p = tested .before .read-letters in
+    let e = room-left .before .length-for .ensures in
+    of-list _ _ (omega arith) (room _ (p .result) (readFrom [] (now (tested .before .before .before .before .before .args .letters))) _ (p .ensures) (tested .if2 .left) (omega (arith, room-left .if3 .left)) (c .before .before .encode .ensures))
 
 pub gates-to-operator-spec : {M : Type 1} → statement M
 gates-to-operator-spec =
@@ -91,6 +102,7 @@ gates-to-operator-spec =
     returns
     read-letters-requires
     returns-2
+    length-for-requires
     returns-3
     encode-requires
     same-length

@@ -16,7 +16,7 @@ use Rattle.matrix.specs.Laws.Operator.{same-operator-sym, same-operator-trans, 
 use Rattle.matrix.specs.Laws.Array.{operatorOf, listed-same, length-listed, least-form, least-exponent}
 use Rattle.file.specs.declared.Answer.{Answer}
 use Rattle.file.specs.declared.Answer.the-variants.{Count, Refused}
-use Rattle.file.specs.File.{largestExponent, fileLength}
+use Rattle.file.specs.File.{largestExponent, lengthFor}
 use Rattle.file.specs.Laws.File.{exponent-back, operator-back}
 use Rattle.letter.specs.declared.Gate.{Gate}
 use Rattle.letter.specs.declared.Letter.{Letter}
@@ -153,7 +153,7 @@ read-into bs w e =
 -- an answer above 6 is that of the reading
 as-read : (n : ℕ) (x : Reading) (k : ℕ) → 6 < k → Refused k ≡ operatorAnswer n x → x ≡ refusal k
 as-read n (refusal m) k h e = cc
-as-read n (gates w) k h e = go (ltb n fileLength) e
+as-read n (gates w) k h e = go (ltb n (lengthFor (leastOf w .exponent))) e
   where
     go : (t : Bool) → Refused k ≡ cond t (Refused 6) (Count (leastOf w .exponent)) → gates w ≡ refusal k
     go true e = let z : k ≡ 6 = cc in absurd (omega arith)

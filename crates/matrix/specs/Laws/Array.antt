@@ -22,11 +22,12 @@ use Rattle.matrix.specs.Array.{Bounded, everywhere, orthogonalAt, isOrth
 use Rattle.matrix.specs.Laws.Integer.{*ℤ-unit-r, equals-eq, equals-yes, square-size, natAbs-add-le, natAbs-minus-le}
 use Rattle.matrix.specs.Laws.Parity.{half-even, half-sum, half-minus, even-parity, parity-even, parity-lt, parity-cases, natAbs-half}
 use Rattle.matrix.specs.Laws.Range.{every-sound, every-complete, first-in, first-most, first-passed, length-tabulate, getD-tabulate, tabulate-is, bits-lt, bit-at, ones-bits}
+use Rattle.matrix.specs.Laws.Test.{same-test}
 use Rattle.matrix.specs.Laws.Ring.{var, num, _:+_, _:-_, _:*_, _:=_, _of_, times-by}
 use Rattle.matrix.specs.Laws.Sum.{sum-cong, δ-same, δ-other, δ-sym}
 use Rattle.matrix.specs.Laws.Matrix.{orthogonal-columns}
 use Rattle.matrix.specs.Laws.Determinant.{replaced-same, replaced-other, det-cong, det-minus-plus}
-use Rattle.matrix.specs.Laws.Operator.{same-operator-refl, same-operator-sym, same-operator-trans, same-operator-of, same-orthogonal, reduced-least, reduced-unique, halved-same, entry-square, entry-bound}
+use Rattle.matrix.specs.Laws.Operator.{same-operator-refl, same-operator-sym, same-operator-trans, same-operator-of, same-orthogonal, reduced-least, reduced-unique, halved-same, entry-square, entry-bound, power-bound, same-square}
 
 -- ---- the array's view as a matrix
 
@@ -139,11 +140,30 @@ unfolding isWithin
 within-sound k M e r c hr hc =
     leb-true _ _ (rw square-size at (everywhere-sound (λ r c. leZ (M r c *ℤ M r c) (pos (2 ^ k))) e r c hr hc))
 
+pub within-complete : (k : ℕ) (M : Matrix) → ((r c : ℕ) → r < 6 → c < 6 → natAbs (M r c) * natAbs (M r c) ≤ 2 ^ k) → isWithin k M ≡ true
+unfolding isWithin
+within-complete k M h = everywhere-complete (λ r c. leZ (M r c *ℤ M r c) (pos (2 ^ k))) (λ r c hr hc. rw square-size (le-leb _ _ (h r c hr hc)))
+
+pub within-bounded : (k b : ℕ) (M : Matrix) → isWithin k M ≡ true → k ≤ b + b → Bounded (2 ^ b) M
+within-bounded k b M e h = record { size = λ r c hr hc. power-bound (natAbs (M r c)) k b (within-sound k M e r c hr hc) h }
+
 -- an orthogonal operator passes
 pub within-orthogonal : (k : ℕ) (M : Matrix) → Orthogonal (operator k M) → isWithin k M ≡ true
-unfolding isWithin
-within-orthogonal k M o =
-    everywhere-complete (λ r c. leZ (M r c *ℤ M r c) (pos (2 ^ k))) (λ r c hr hc. rw square-size (le-leb _ _ (entry-square o r c hr hc)))
+within-orthogonal k M o = within-complete k M (entry-square o)
+
+-- operators that stand for the same matrix pass together
+module _ {A B : Operator} (h : SameOperator A B) where
+  pub same-within : isWithin (A .exponent) (A .matrix) ≡ isWithin (B .exponent) (B .matrix)
+  same-within = same-test _ _ (pass h) (pass (same-operator-sym h))
+    where
+      pass : {A B : Operator} → SameOperator A B → isWithin (A .exponent) (A .matrix) ≡ true → isWithin (B .exponent) (B .matrix) ≡ true
+      pass {A} {B} h e = within-complete (B .exponent) (B .matrix) (λ r c hr hc. same-square h r c hr hc (within-sound (A .exponent) (A .matrix) e r c hr hc))
+
+  pub same-is-orthogonal : isOrthogonal (A .exponent) (A .matrix) ≡ isOrthogonal (B .exponent) (B .matrix)
+  same-is-orthogonal = same-test _ _ (pass h) (pass (same-operator-sym h))
+    where
+      pass : {A B : Operator} → SameOperator A B → isOrthogonal (A .exponent) (A .matrix) ≡ true → isOrthogonal (B .exponent) (B .matrix) ≡ true
+      pass {A} {B} h e = orthogonal-complete (B .exponent) (B .matrix) (same-orthogonal h (orthogonal-sound (A .exponent) (A .matrix) e))
 
 pub orthogonal-bounded : (k b : ℕ) (M : Matrix) → Orthogonal (operator k M) → k ≤ b + b → Bounded (2 ^ b) M
 orthogonal-bounded k b M o h = record { size = λ r c hr hc. entry-bound o b h r c hr hc }

@@ -5,7 +5,7 @@ use mathlib.Core.List.{[], _∷_}
 use Prim.Native.Nat.{ℕ, zero, suc, _+_, _*_, _-_, _/_, _%_, _^_, _<_, _≤_}
 use native.Mathlib.Omega.{arith}
 use native.Mathlib.Decide.{decLe}
-use native.Mathlib.Nat.{zero-add, suc-add, two-pow-succ, mul-pos, mul-le-mul, le-trans}
+use native.Mathlib.Nat.{zero-add, suc-add, two-pow-succ, mul-comm, mul-pos, mul-le-mul, mul-le-mul-left, le-of-mul-le-mul-left, le-trans}
 use lib.Pow.{pow-add, pow-pos, pow-mono}
 use lib.IntN.{ℤ, pos, negsuc, natAbs, pow, _+ℤ_, _*ℤ_, zero-*ℤ, *ℤ-zero, *ℤ-comm}
 use lib.Signed.{_<ℤ_}
@@ -324,7 +324,23 @@ entry-square {A} o i j hi hj =
     (sum-cong (λ c hc. sym (square-size (A .matrix i c))) ∙ o .rows i i hi hi ∙ ap (λ x. pos (2 ^ A .exponent) *ℤ x) (δ-same i) ∙ *ℤ-unit-r (pos (2 ^ A .exponent)))
 
 -- an exponent of at most 2 b keeps the entries within 2 to the power b
+pub power-bound : (n k b : ℕ) → n * n ≤ 2 ^ k → k ≤ b + b → n ≤ 2 ^ b
+power-bound n k b s h = square-le n (2 ^ b) (subst (λ x. n * n ≤ x) (pow-add 2 b b) (le-trans s (pow-mono h)))
+
 pub entry-bound : {A : Operator} → Orthogonal A → (b : ℕ) → A .exponent ≤ b + b → (i j : ℕ) → i < 6 → j < 6 → natAbs (A .matrix i j) ≤ 2 ^ b
-entry-bound {A} o b h i j hi hj =
-    square-le (natAbs (A .matrix i j)) (2 ^ b)
-    (subst (λ x. natAbs (A .matrix i j) * natAbs (A .matrix i j) ≤ x) (pow-add 2 b b) (le-trans (entry-square o i j hi hj) (pow-mono h)))
+entry-bound {A} o b h i j hi hj = power-bound (natAbs (A .matrix i j)) (A .exponent) b (entry-square o i j hi hj) h
+
+-- whether an entry's square is at most 2 to the power k is a property of the matrix that the operator stands for
+pub same-square : {A B : Operator} → SameOperator A B → (i j : ℕ) → i < 6 → j < 6 → natAbs (A .matrix i j) * natAbs (A .matrix i j) ≤ 2 ^ A .exponent
+    → natAbs (B .matrix i j) * natAbs (B .matrix i j) ≤ 2 ^ B .exponent
+same-square {A} {B} h i j hi hj l =
+    let a = A .matrix i j in
+    let b = B .matrix i j in
+    let x = natAbs a * natAbs a in
+    let y = natAbs b * natAbs b in
+    let p = 2 ^ A .exponent in
+    let q = 2 ^ B .exponent in
+    let e : pos q *ℤ (a *ℤ a) ≡ pos p *ℤ (b *ℤ b) =
+    ap (λ z. z .0) (sym (raised-twice (B .exponent) (a *ℤ a)) ∙ equal-product (A .exponent) (B .exponent) (A .exponent) (B .exponent) a b a b (h .entries i j hi hj) (h .entries i j hi hj) ∙ raised-twice (A .exponent) (b *ℤ b)) in
+    let f : q * x ≡ p * y = ap natAbs (rw (square-size a, square-size b) at e) in
+    le-of-mul-le-mul-left (subst (λ z. z ≤ p * q) f (rw (mul-comm p q) (mul-le-mul-left q l))) (pow-pos (A .exponent))

@@ -38,6 +38,12 @@ pub and-right : (a b : Bool) → (a && b) ≡ true → b ≡ true
 and-right true b e = e
 and-right false b e = cc
 
+-- two tests that pass together
+pub same-test : (a b : Bool) → (a ≡ true → b ≡ true) → (b ≡ true → a ≡ true) → a ≡ b
+same-test true b f g = sym (f refl)
+same-test false true f g = g refl
+same-test false false f g = refl
+
 pub same-list : (xs ys : List ℕ) → sameList xs ys ≡ true → xs ≡ ys
 same-list [] [] t = refl
 same-list [] (y ∷ ys) t = cc

@@ -6,8 +6,9 @@ use native.Mathlib.Omega.{arith}
 use denote.Ref.{now}
 use lib.ListN.{length}
 use borrow.Author.Needs.{needs}
+use Rattle.file.specs.Laws.File.{length-most}
 use Rattle.file.specs.Laws.Written.{appended-as}
-use Rattle.file.specs.File.{fileLength}
+use Rattle.file.specs.File.{longLength}
 use Rattle.gate.specs.Reading.{Reading, reading}
 use Rattle.gate.specs.Promise.{ProductPromise}
 use Rattle.text.specs.Text.{refusedWord}
@@ -27,7 +28,7 @@ promise c =
 abbrev read : tie.After-gates-to-operator → Reading
 read c = reading (withoutLineFeed (now (c .before .before .before .before .args .input)))
 
-room : (c : tie.After-gates-to-operator) → fileLength ≤ length (now (c .before .before .before .before .args .out))
+room : (c : tie.After-gates-to-operator) → longLength ≤ length (now (c .before .before .before .before .args .out))
 room c = omega arith
 
 without-line-feed-requires : tie.Need-without-line-feed-requires
@@ -36,34 +37,39 @@ without-line-feed-requires c κs = search needs
 gates-to-operator-requires : tie.Need-gates-to-operator-requires
 gates-to-operator-requires c κs = search needs
 
-enum-told : tie.Need-enum-told
-enum-told c = search needs
-
 enum-known-answer : tie.Need-enum-known-answer
 enum-known-answer c = search needs
+
+length-for-requires : tie.Need-length-for-requires
+length-for-requires c κs = search needs
+
+enum-known-answer-2 : tie.Need-enum-known-answer-2
+enum-known-answer-2 c = search needs
 
 write-refused-requires : tie.Need-write-refused-requires
 write-refused-requires c κs =
     let g = c .before .before .before .before in
     let p = promise g in
-    let (e, f) = refused _ _ (room g) (read g) _ (sym (c .before .before .answer .given .1) ∙ p .answer) (p .buffer) in
-    let l = line-length refusedWord (c .before .before .answer .given .0 .0 ∷ []) in
+    let (e, f) = refused _ _ (room g) (read g) _ (sym (c .before .before .answer2 .given .1) ∙ p .answer) (p .buffer) in
+    let l = line-length refusedWord (c .before .before .answer2 .given .0 .0 ∷ []) in
     let m = ap length f in
     omega arith
 
 returns : tie.Need-returns
 returns c =
-    let g = c .before .before in
+    let g = c .before .before .before .before in
     let p = promise g in
-    let (n, a) = filed _ _ (room g) (read g) _ (sym (c .enum-told .given .1) ∙ p .answer) (p .buffer) in
-    (a, within a (omega arith))
+    let (n, a) = filed _ _ (room g) (read g) _ (sym (c .before .before .answer .given .1) ∙ p .answer) (p .buffer) in
+    let h = length-most (c .before .before .answer .given .0 .0) in
+    let e = c .length-for .ensures in
+    (rw e a, rw e (within a (omega arith)))
 
 returns-2 : tie.Need-returns-2
 returns-2 c =
     let g = c .before .before .before .before .before in
     let p = promise g in
-    let (e, f) = refused _ _ (room g) (read g) _ (sym (c .before .before .before .answer .given .1) ∙ p .answer) (p .buffer) in
-    let l = line-length refusedWord (c .before .before .before .answer .given .0 .0 ∷ []) in
+    let (e, f) = refused _ _ (room g) (read g) _ (sym (c .before .before .before .answer2 .given .1) ∙ p .answer) (p .buffer) in
+    let l = line-length refusedWord (c .before .before .before .answer2 .given .0 .0 ∷ []) in
     let a = rw f at (c .write-refused .ensures) in
     (appended-as e a, within a (omega arith))
 
@@ -73,8 +79,9 @@ answer-spec =
     (tie.spec
     without-line-feed-requires
     gates-to-operator-requires
-    enum-told
     enum-known-answer
+    length-for-requires
+    enum-known-answer-2
     write-refused-requires
     returns
     returns-2)

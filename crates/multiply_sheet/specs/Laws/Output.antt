@@ -4,24 +4,28 @@ use mathlib.Core.List.{List}
 use mathlib.Core.Logic.{_≢_}
 use Prim.Native.Nat.{ℕ, _≤_}
 use native.Mathlib.Decide.{ℕ-discrete}
+use native.Mathlib.Nat.{le-trans}
 use native.Mathlib.Omega.{arith}
 use lib.ListN.{length}
 use borrow.Author.Tests.{eq-eqb, ne-eqb, le-ltb}
 use Rattle.file.specs.declared.Answer.{Answer}
 use Rattle.file.specs.declared.Answer.the-variants.{Count, Refused}
-use Rattle.file.specs.File.{fileLength, written, Appended}
-use Rattle.file.specs.Laws.File.{length-file}
+use Rattle.file.specs.File.{longLength, lengthFor, written, Appended}
+use Rattle.file.specs.Laws.File.{length-file, length-most}
 use Rattle.sheet_bytes.specs.Sheet.{sheetRefusal, sheetLeast}
 use Rattle.sheet.specs.Promise.{sheetFile, operatorAnswer, operatorBuffer, OperatorPromise}
 use Rattle.text.specs.Text.{refusedLine}
 use Rattle.text.specs.Laws.Text.{front}
 use Rattle.multiply_sheet.specs.Output.{outputOf}
 
-module _ (s old new : List ℕ) (a : Answer) (room : fileLength ≤ length old) (p : OperatorPromise s old new a) where
+module _ (s old new : List ℕ) (a : Answer) (room : longLength ≤ length old) (p : OperatorPromise s old new a) where
+  fits : lengthFor (sheetLeast s .exponent) ≤ length old
+  fits = le-trans (length-most (sheetLeast s .exponent)) room
+
   module _ (z : sheetRefusal s ≡ 0) where
     answer-is : a ≡ Count (sheetLeast s .exponent)
     unfolding operatorAnswer
-    answer-is = p .answer ∙ rw (eq-eqb (sheetRefusal s) 0 z, le-ltb (length old) fileLength room)
+    answer-is = p .answer ∙ rw (eq-eqb (sheetRefusal s) 0 z, le-ltb (length old) (lengthFor (sheetLeast s .exponent)) fits)
 
     output-is : outputOf s ≡ sheetFile s
     unfolding outputOf
@@ -29,12 +33,12 @@ module _ (s old new : List ℕ) (a : Answer) (room : fileLength ≤ length old) 
 
     buffer-is : new ≡ written old (outputOf s)
     unfolding operatorBuffer outputOf
-    buffer-is = p .buffer ∙ rw (eq-eqb (sheetRefusal s) 0 z, le-ltb (length old) fileLength room)
+    buffer-is = p .buffer ∙ rw (eq-eqb (sheetRefusal s) 0 z, le-ltb (length old) (lengthFor (sheetLeast s .exponent)) fits)
 
-    done : (length (outputOf s) ≡ fileLength) × Appended (outputOf s) 0 old new fileLength
-    done =
-        let n = ap length output-is ∙ length-file (sheetLeast s .exponent) (sheetLeast s .matrix) in
-        (n, subst (λ x. Appended (outputOf s) 0 old x fileLength) (sym buffer-is) (subst (λ x. Appended (outputOf s) 0 old (written old (outputOf s)) x) n (front old (outputOf s))))
+    done : (k : ℕ) → sheetLeast s .exponent ≡ k → (length (outputOf s) ≡ lengthFor k) × Appended (outputOf s) 0 old new (lengthFor k)
+    done k e =
+        let n = ap length output-is ∙ length-file (sheetLeast s .exponent) (sheetLeast s .matrix) ∙ ap lengthFor e in
+        (n, subst (λ x. Appended (outputOf s) 0 old x (lengthFor k)) (sym buffer-is) (subst (λ x. Appended (outputOf s) 0 old (written old (outputOf s)) x) n (front old (outputOf s))))
 
   module _ (n : sheetRefusal s ≢ 0) where
     refusal-is : a ≡ Refused (sheetRefusal s)
@@ -50,9 +54,9 @@ module _ (s old new : List ℕ) (a : Answer) (room : fileLength ≤ length old) 
     unchanged = p .buffer ∙ rw (ne-eqb (sheetRefusal s) 0 n)
 
   -- after a count
-  pub filed : (k : ℕ) → a ≡ Count k → (length (outputOf s) ≡ fileLength) × Appended (outputOf s) 0 old new fileLength
+  pub filed : (k : ℕ) → a ≡ Count k → (length (outputOf s) ≡ lengthFor k) × Appended (outputOf s) 0 old new (lengthFor k)
   filed k e = elim (ℕ-discrete (sheetRefusal s) 0) [
-    | yes z ↦ done z
+    | yes z ↦ let f = answer-is z in let x : sheetLeast s .exponent ≡ k = cc in done z k x
     | no n ↦ let f = refusal-is n in let x : _≡_ {A = ℕ} 0 1 = cc in absurd (omega arith)
   ]
 

@@ -3,12 +3,11 @@ use mathlib.Core.Path.{_≡_, refl, _∙_}
 use mathlib.Core.Bool.{Bool, true, false, not, cond}
 use mathlib.Core.Logic.{_≢_, inl, inr, ⊎-elim}
 use mathlib.Core.List.{List}
-use Prim.Native.Nat.{ℕ, _≤_}
+use Prim.Native.Nat.{ℕ}
 use native.Mathlib.Omega.{arith}
-use lib.ListN.{length}
 use Rattle.matrix.specs.Operator.{Operator}
 use Rattle.matrix.specs.Array.{isWithin, isOrthogonal}
-use Rattle.file.specs.File.{largestExponent, fileLength, fileExponent, fileMatrix, fileOperator}
+use Rattle.file.specs.File.{fileExponent, fileMatrix, fileOperator, InForm}
 use Rattle.letter.specs.declared.Gate.{Gate}
 use Rattle.gate.specs.Product.{MultipliesTo}
 use Rattle.gate.specs.Laws.Product.{multiplied-orthogonal, multiplied-proper}
@@ -21,13 +20,13 @@ pub accepted-multiplies : (b : List ℕ) → fileRefusal b ≡ 0 → (w : List G
 accepted-multiplies b z =
     let a = accepted b z .entries in some-list (fileExponent b) (fileMatrix b) (a .orthogonal) (a .proper)
 
-pub multiplies-accepted : (b : List ℕ) → length b ≡ fileLength → fileExponent b ≤ largestExponent → (w : List Gate) → MultipliesTo w (fileOperator b) → fileRefusal b ≡ 0
-multiplies-accepted b l r w m =
-    in-form b l r ∙ entries-complete (fileOperator b) (record { orthogonal = multiplied-orthogonal m; proper = multiplied-proper m })
+pub multiplies-accepted : (b : List ℕ) → InForm b → (w : List Gate) → MultipliesTo w (fileOperator b) → fileRefusal b ≡ 0
+multiplies-accepted b f w m =
+    in-form b f ∙ entries-complete (fileOperator b) (record { orthogonal = multiplied-orthogonal m; proper = multiplied-proper m })
 
 -- the refusals of a file in form are those for its entries
-for-entries : (b : List ℕ) → length b ≡ fileLength → fileExponent b ≤ largestExponent → fileRefusal b ≢ 0 → ForEntries (fileRefusal b)
-for-entries b l r h = rw (in-form b l r) (go (isWithin (A .exponent) (A .matrix)) (isOrthogonal (A .exponent) (A .matrix)) (isProper (A .matrix)) (λ z. h (in-form b l r ∙ z)))
+for-entries : (b : List ℕ) → InForm b → fileRefusal b ≢ 0 → ForEntries (fileRefusal b)
+for-entries b f h = rw (in-form b f) (go (isWithin (A .exponent) (A .matrix)) (isOrthogonal (A .exponent) (A .matrix)) (isProper (A .matrix)) (λ z. h (in-form b f ∙ z)))
   where
     A : Operator
     A = fileOperator b
@@ -41,10 +40,10 @@ for-entries b l r h = rw (in-form b l r) (go (isWithin (A .exponent) (A .matrix)
 -- so it is for an answer that is the file's refusal
 pub exactly-refused : (b : List ℕ) (n : ℕ) → n ≡ fileRefusal b → ExactlyRefused b n
 exactly-refused b n e = record {
-  refused = λ l r f w m. let z = multiplies-accepted b l r w m in ⊎-elim (λ x. omega arith) (λ y. ⊎-elim (λ x. omega arith) (λ x. omega arith) y) f;
-  no-list = λ l r none. rw e (for-entries b l r (λ z. let (w, m) = accepted-multiplies b z in none w m));
+  refused = λ f n w m. let z = multiplies-accepted b f w m in ⊎-elim (λ x. omega arith) (λ y. ⊎-elim (λ x. omega arith) (λ x. omega arith) y) n;
+  no-list = λ f none. rw e (for-entries b f (λ z. let (w, m) = accepted-multiplies b z in none w m));
 }
 
 -- and for one that is none of an accepted file's
 pub exactly-accepted : (b : List ℕ) (n : ℕ) → fileRefusal b ≡ 0 → (ForEntries n → ⊥) → ExactlyRefused b n
-exactly-accepted b n z h = record { refused = λ l r f. absurd (h f); no-list = λ l r none. let (w, m) = accepted-multiplies b z in absurd (none w m) }
+exactly-accepted b n z h = record { refused = λ f n. absurd (h n); no-list = λ f none. let (w, m) = accepted-multiplies b z in absurd (none w m) }

@@ -32,7 +32,7 @@ use Rattle.acceptance.specs.declared.Cut.{Cut}
 use Rattle.acceptance.specs.Acceptance.{fileRefusal}
 use Rattle.acceptance.specs.Cutting.{fileCount, fileLoose, fileNumbers, fileColumns, CutOf}
 use Rattle.operator.specs.Promise.{refusalOf, ExactlyRefused, fileSheet, sheetAnswer, sheetBuffer, SheetPromise, GatesPromise}
-use Rattle.acceptance.specs.Laws.Acceptance.{accepted}
+use Rattle.acceptance.specs.Laws.Acceptance.{accepted, range-most}
 use Rattle.operator.specs.Laws.Exactly.{exactly-refused, exactly-accepted}
 
 module _ (b : List ℕ) (z : fileRefusal b ≡ 0) where
@@ -40,7 +40,7 @@ module _ (b : List ℕ) (z : fileRefusal b ≡ 0) where
   file-cutting = cutting (fileExponent b) (fileMatrix b) (accepted b z .entries .orthogonal)
 
   pub count-small : fileCount b ≤ largestExponent
-  count-small = let h = least-form (fileExponent b) (fileMatrix b) .below in let r = accepted b z .range in omega arith
+  count-small = let h = least-form (fileExponent b) (fileMatrix b) .below in let r = range-most b (accepted b z .form) in omega arith
 
   pub columns-bytes : areColumnBytes (fileColumns b) ≡ true
   columns-bytes = columns-valid (fileColumns b) (permutation-complete (fileColumns b) (matrix-permutation (entry (remaining (fileExponent b) (fileMatrix b))) (file-cutting .orthogonal)))

@@ -1,4 +1,4 @@
--- Within the limits nothing overflows: t × p is at most 28,000, and the figure at most 56.
+-- Within the limits nothing overflows: t × p is at most 60,000, and the figure at most 120.
 use mathlib.Core.Path.{_≡_, ap, _∙_}
 use Prim.Native.Nat.{ℕ, _+_, _*_, _≤_, _<_}
 use native.Mathlib.Nat.{mul-le-mul}
@@ -21,10 +21,10 @@ unfolding orderAnswer
 spoilt t p l h = rw (le-ltb largestExponent t l, lt-ltb largestSpoilage p h)
 
 module _ (t p : ℕ) (l : t ≤ largestExponent) (h : p ≤ largestSpoilage) where
-  product : t * p ≤ 28000
+  product : t * p ≤ 60000
   product = mul-le-mul l h
 
-  most : figure t p ≤ 56
+  most : figure t p ≤ 120
   most = let m = figure-le t p h in omega arith
 
   ordered : Count (figure t p) ≡ orderAnswer t p

@@ -29,11 +29,11 @@ abbrev within-at : ℕ → List ℤ → ℕ → Bool
 within-at k m n = leZ (square-at m n) (pos (2 ^ k))
 
 -- the square of the entry at n, as the machine has it
-square : (m : List ℤ) (n : ℕ) → n < 36 → Bounded (2 ^ 30) (entry m)
-    → Sized (2 ^ 60) (toZ w64 (ofZ w64 (getD m n (pos 0))) *ℤ toZ w64 (ofZ w64 (getD m n (pos 0)))) (square-at m n)
+square : (m : List ℤ) (n : ℕ) → n < 36 → Bounded (2 ^ 31) (entry m)
+    → Sized (2 ^ 62) (toZ w64 (ofZ w64 (getD m n (pos 0))) *ℤ toZ w64 (ofZ w64 (getD m n (pos 0)))) (square-at m n)
 square m n h b = rw entry-flat (mul x x)
   where
-    x : Sized (2 ^ 30) (toZ w64 (ofZ w64 (getD m n (pos 0)))) (getD m n (pos 0))
+    x : Sized (2 ^ 31) (toZ w64 (ofZ w64 (getD m n (pos 0)))) (getD m n (pos 0))
     x = stored (getD m n (pos 0)) (rw entry-flat at (b .size (n / 6) (n % 6) (omega arith) (omega arith))) (lit< tt)
 
 abbrev Inv-loop : tie.InvT-loop

@@ -6,14 +6,14 @@ use native.Mathlib.Omega.{arith}
 use lib.ListN.{length}
 use Rattle.matrix.specs.Operator.{SameOperator, SameUpToSign}
 use Rattle.matrix.specs.Laws.Operator.{same-operator-sym, same-operator-trans}
-use Rattle.file.specs.File.{largestExponent, fileOperator}
-use Rattle.file.specs.Laws.File.{length-file}
+use Rattle.file.specs.File.{fileOperator}
+use Rattle.file.specs.Laws.File.{file-in-form}
 use Rattle.clifford.specs.Columns.{timesSign}
 use Rattle.clifford.specs.Laws.Sign.{sign-same, up-to-sign, sign-of-both}
 use Rattle.letter.specs.declared.Gate.{Gate}
 use Rattle.letter.specs.Gate.{letter}
 use Rattle.gate.specs.Product.{productOf, csGates}
-use Rattle.gate.specs.Reading.{gates, reading, leastOf, productFile}
+use Rattle.gate.specs.Reading.{longestWritten, gates, reading, leastOf, productFile}
 use Rattle.gate.specs.Laws.Reading.{read-small, read-into}
 use Rattle.acceptance.specs.Acceptance.{fileRefusal}
 use Rattle.operator.specs.declared.Listed.{Listed}
@@ -29,9 +29,7 @@ use Rattle.qasm.specs.Laws.Meaning.{text-means, means-list}
 pub product-accepted : (bs : List ℕ) (w : List Gate) → reading bs ≡ gates w → fileRefusal (productFile w) ≡ 0
 product-accepted bs w e =
     let r = read-into bs w e in
-    let k = read-small bs w e in
-    let c = r .count in
-    multiplies-accepted (productFile w) (length-file (leastOf w .exponent) (leastOf w .matrix)) (omega arith) w (r .multiplies)
+    multiplies-accepted (productFile w) (file-in-form (leastOf w .exponent) (leastOf w .matrix) (read-small bs w e)) w (r .multiplies)
 
 -- the list v, whose sign is s, may be written as text, which means what the text bs means, times the sign; and no list that multiplies to that or to
 -- its negative has fewer letters C
@@ -46,7 +44,7 @@ module _ (bs : List ℕ) (w : List Gate) (e : readQasm bs ≡ gates w) (f : read
   file-means = same-operator-trans (same-operator-sym (text-means bs w (read-within bs w e .0) .same)) (read-into (map letter w) w f .multiplies .same)
 
   -- what `operator_to_gates` then writes into a buffer that has room for any list
-  pub text-to-text : (old new : List ℕ) (a : Listed) → GatesPromise (productFile w) old new a → 256 * (largestExponent + 1) ≤ length old
+  pub text-to-text : (old new : List ℕ) (a : Listed) → GatesPromise (productFile w) old new a → longestWritten ≤ length old
       → (v : List Gate) × (s : ℕ) × Handed (productFile w) old new a v s × Shortest bs v s
   text-to-text old new a p h =
       let z = product-accepted (map letter w) w f in

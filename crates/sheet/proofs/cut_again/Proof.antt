@@ -29,7 +29,7 @@ use Rattle.sheet.proofs.cut_again.Statement.{statement}
 use Rattle.sheet.proofs.cut_again.Tie as tie
 
 module _ (s : List ℕ) (k : ℕ) (m : List ℤ) (o : Orthogonal (operator k (entry m))) (f : Normal) (w : WholeOf k m f) where
-  small : k ≤ 28 → f .count ≤ 60
+  small : k ≤ 60 → f .count ≤ 60
   small h = rw (w .count) (let b = least-form k m .below in omega arith)
 
   module _ (cs : List ℕ) (c : cs ≡ columnBytes (entry (f .matrix))) (t : Bool) (e : t ≡ sameList (sheetBytes (take (f .count) (f .numbers)) cs) s) where

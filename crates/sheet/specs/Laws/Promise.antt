@@ -8,8 +8,8 @@ use borrow.Author.Tests.{eq-eqb, ne-eqb, lt-ltb, le-ltb}
 use Rattle.matrix.specs.Operator.{SameOperator}
 use Rattle.file.specs.declared.Answer.{Answer}
 use Rattle.file.specs.declared.Answer.the-variants.{Count, Refused}
-use Rattle.file.specs.File.{fileLength, fileOf, written, Short}
-use Rattle.file.specs.Laws.File.{exponent-back, orthogonal-short}
+use Rattle.file.specs.File.{kindFor, lengthFor, fileOf, written, Fits}
+use Rattle.file.specs.Laws.File.{exponent-back, orthogonal-fits}
 use Rattle.file.specs.declared.Read.{Read}
 use Rattle.sheet_bytes.specs.Bytes.{sheetOperator}
 use Rattle.sheet_bytes.specs.Sheet.{sheetRefusal, sheetLeast}
@@ -37,23 +37,23 @@ module _ (s old : List ℕ) (r : Read) (c : SheetRead s r) where
       let t = ne-eqb (sheetRefusal s) 0 (λ z. h (c .refusal ∙ z)) in
       promised (rw t (ap Refused (c .refusal))) (rw t)
 
-  pub no-room : r .refusal ≡ 0 → length old < fileLength → OperatorPromise s old old (Refused 6)
+  pub no-room : r .refusal ≡ 0 → length old < lengthFor (r .exponent) → OperatorPromise s old old (Refused 6)
   unfolding operatorAnswer operatorBuffer
   no-room e h =
       let t = eq-eqb (sheetRefusal s) 0 (no-refusal e) in
-      let l = lt-ltb (length old) fileLength h in
+      let l = lt-ltb (length old) (lengthFor (sheetLeast s .exponent)) (subst (λ k. length old < lengthFor k) (c .exponent (no-refusal e)) h) in
       promised (rw (t, l)) (rw (t, l))
 
-  pub done : (new : List ℕ) → r .refusal ≡ 0 → fileLength ≤ length old → new ≡ written old (fileOf (r .exponent) (r .matrix)) → OperatorPromise s old new (Count (r .exponent))
+  pub done : (new : List ℕ) → r .refusal ≡ 0 → lengthFor (r .exponent) ≤ length old → new ≡ written old (fileOf (r .exponent) (r .matrix)) → OperatorPromise s old new (Count (r .exponent))
   unfolding operatorAnswer operatorBuffer
   done new e h n =
       let t = eq-eqb (sheetRefusal s) 0 (no-refusal e) in
-      let l = le-ltb (length old) fileLength h in
+      let l = le-ltb (length old) (lengthFor (sheetLeast s .exponent)) (subst (λ k. lengthFor k ≤ length old) (c .exponent (no-refusal e)) h) in
       let k = c .exponent (no-refusal e) in
       promised (rw (t, l) (ap Count k)) (rw (t, l) (n ∙ ap₂ (λ x y. written old (fileOf x y)) k (c .matrix (no-refusal e))))
 
   -- the entries fit the file
-  pub short : r .refusal ≡ 0 → Short (r .matrix)
-  short e =
+  pub fits : r .refusal ≡ 0 → Fits (kindFor (r .exponent)) (r .matrix)
+  fits e =
       let z = no-refusal e in
-      rw (c .matrix z) (orthogonal-short (sheetLeast s .exponent) (sheetLeast s .matrix) (sheet-small s (accepted s z)) (least-orthogonal-sheet s (accepted s z)))
+      rw (c .exponent z, c .matrix z) (orthogonal-fits (sheetLeast s .exponent) (sheetLeast s .matrix) (sheet-small s (accepted s z)) (least-orthogonal-sheet s (accepted s z)))

@@ -19,7 +19,7 @@ use Rattle.matrix.specs.Laws.Array.{operatorOf, listed-cong, listed-same, lengt
 use Rattle.clifford.specs.Columns.{columnsMatrix, signed, areColumnBytes, arePermutation, isEven}
 use Rattle.clifford.specs.Laws.Columns.{Permutation, permutation-sound, permutation-complete, columns-orthogonal}
 use Rattle.clifford.specs.Laws.Signed.{signed-permutation}
-use Rattle.file.specs.File.{fileOperator}
+use Rattle.file.specs.File.{largestExponent, fileOperator}
 use Rattle.file.specs.Laws.File.{operator-back}
 use Rattle.reduction.specs.Reduction.{normalForm}
 use Rattle.reduction.specs.Laws.NormalForm.{Numbers, normal-exponent, normal-orthogonal}
@@ -164,7 +164,7 @@ module _ (s : List ℕ) (a : Accepted s) where
   pub sheet-stated : getD s 0 0 ≡ countByte (sheetLeast s .exponent)
   sheet-stated = let e = sheet-exact in let c = eqb-true (getD s 0 0) (length s + 56) (a .form .counted) in omega arith
 
-  pub sheet-small : sheetLeast s .exponent ≤ 28
+  pub sheet-small : sheetLeast s .exponent ≤ largestExponent
   sheet-small = let e = sheet-exact in let h = a .form .short in omega arith
 
   pub sheet-long : length (sheetLeast s .matrix) ≡ 36

@@ -5,14 +5,14 @@ use native.Mathlib.Omega.{arith}
 use lib.IntN.{pos}
 use Rattle.matrix.specs.Laws.Range.{Filled, filled-none, filled-more, filled-all}
 use Rattle.matrix.specs.Laws.Machine.{kept}
-use Rattle.file.specs.File.{fileEntry}
+use Rattle.file.specs.File.{shortFile, entryOf}
 use Rattle.unitary_file.specs.Unitary.{unitaryEntries}
 use borrow.Author.Needs.{needs}
 use Rattle.unitary_file.proofs.decode.Statement.{statement}
 use Rattle.unitary_file.proofs.decode.Tie as tie
 
 abbrev Inv-loop : tie.InvT-loop
-Inv-loop bytes n₀ i₀ n i = (i ≤ 32) × Filled (pos 0) (fileEntry bytes) n₀ i n
+Inv-loop bytes n₀ i₀ n i = (i ≤ 32) × Filled (pos 0) (entryOf shortFile bytes) n₀ i n
 
 abbrev μ-loop : tie.MeasureT-loop
 μ-loop bytes n₀ i₀ n i = 32 - i
@@ -20,8 +20,8 @@ abbrev μ-loop : tie.MeasureT-loop
 loop-holds : tie.Need-loop-holds Inv-loop μ-loop
 loop-holds c = (search needs, filled-none _ _ _)
 
-entry-at-requires : tie.Need-entry-at-requires Inv-loop μ-loop
-entry-at-requires c κs = search needs
+short-entry-requires : tie.Need-short-entry-requires Inv-loop μ-loop
+short-entry-requires c κs = search needs
 
 mul-n : tie.Need-mul-n Inv-loop μ-loop
 mul-n c = search needs
@@ -38,7 +38,7 @@ loop-less c = search needs
 loop-again : tie.Need-loop-again Inv-loop μ-loop
 loop-again c =
     let l = c .before .before in
-    (search needs, filled-more _ _ _ (l .loop .i) (l .loop .n) _ (l .loop .inv .1) (omega arith) (kept (c .entry-at .ok) ∙ c .entry-at .ensures))
+    (search needs, filled-more _ _ _ (l .loop .i) (l .loop .n) _ (l .loop .inv .1) (omega arith) (kept (c .short-entry .ok) ∙ c .short-entry .ensures))
 
 returns : tie.Need-returns Inv-loop μ-loop
 unfolding unitaryEntries
@@ -53,7 +53,7 @@ decode-spec =
     Inv-loop
     μ-loop
     loop-holds
-    entry-at-requires
+    short-entry-requires
     mul-n
     array-set-from-n
     add-i

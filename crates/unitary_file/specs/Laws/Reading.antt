@@ -9,7 +9,7 @@ use lib.IntN.{ℤ, natAbs}
 use lib.ListN.{length, getD}
 use borrow.Author.Tests.{eq-eqb, ne-eqb, lt-ltb, le-ltb}
 use Rattle.matrix.specs.Range.{tabulate}
-use Rattle.file.specs.File.{fileExponent, fileEntry}
+use Rattle.file.specs.File.{shortFile, fileExponent, entryOf}
 use Rattle.file.specs.Laws.File.{entry-size}
 use Rattle.unitary_file.specs.declared.Entries.{Entries}
 use Rattle.unitary.specs.Unitary.{matrixOf}
@@ -57,4 +57,4 @@ narrow f h a (suc k) (suc i) = narrow f h (suc a) k i
 
 pub entries-narrow : (b : List ℕ) → ((i : ℕ) → getD b i 0 < 256) → Narrow (unitaryEntries b)
 unfolding unitaryEntries
-entries-narrow b h = narrow (fileEntry b) (entry-size b h) 0 32
+entries-narrow b h = narrow (entryOf shortFile b) (entry-size b h shortFile) 0 32
