@@ -62,14 +62,14 @@ pub fn show_cut(file: &[u8]) {
 }
 
 // An operator file, by its count, sheet and L, or by its refusal.
-pub fn cut_case(name: &[u8], file: [u8; 73]) {
+pub fn cut_case(name: &[u8], file: &[u8]) {
     show(name);
-    show_cut(&file);
+    show_cut(file);
 }
 
 // A sheet, by the count of its operator.
 pub fn sheet_case(sheet: &[u8]) {
-    let mut file = [0u8; 73];
+    let mut file = [0u8; file::LONG_LENGTH];
     let answer = sheet::sheet_to_operator(sheet, &mut file);
     show_bytes(b"sheet", sheet);
     end_line(b": count ", answer);

@@ -5,23 +5,36 @@ use operator::Listed;
 
 // The operator that a gate list multiplies to.
 fn show_product(letters: &[u8]) {
-    let mut file = [0u8; 73];
-    gate::gates_to_operator(letters, &mut file);
-    show::show_cut(&file);
+    let mut file = [0u8; file::LONG_LENGTH];
+    match gate::gates_to_operator(letters, &mut file) {
+        Answer::Count(count) => show::show_cut(&file[..file::length_for(count)]),
+        Answer::Refused(n) => show::end_line(b"", Answer::Refused(n)),
+    }
+}
+
+// A gate list by its name, and its operator.
+pub fn product_case(name: &[u8], letters: &[u8]) {
+    show::show(name);
+    show_product(letters);
+}
+
+// A gate list by its name, and what the call for its operator answers, where this buffer is lent.
+pub fn room_case(name: &[u8], letters: &[u8], out: &mut [u8]) {
+    show::show(name);
+    show::end_line(b": count ", gate::gates_to_operator(letters, out));
 }
 
 // A gate list, by its operator.
 pub fn gates_case(letters: &[u8]) {
-    show::show(letters);
-    show_product(letters);
+    product_case(letters, letters);
 }
 
 // A gate list, by a file's name if it multiplies to the file's operator.
-pub fn same_case(letters: &[u8], name: &[u8], file: [u8; 73]) {
-    let mut product = [0u8; 73];
+pub fn same_case(letters: &[u8], name: &[u8], file: &[u8]) {
+    let mut product = [0u8; file::SHORT_LENGTH];
     let answer = gate::gates_to_operator(letters, &mut product);
     show::show(letters);
-    if check::same(&product, &file) {
+    if check::same(&product, file) {
         show::show(name);
     }
     show::end_line(b", count ", answer);
@@ -72,8 +85,8 @@ fn end_list(answer: Listed, buffer: &[u8]) {
 }
 
 // An operator file, by its gate list.
-pub fn list_case(name: &[u8], file: [u8; 73]) {
-    let mut gates = [show::UNWRITTEN; 7424];
+pub fn list_case(name: &[u8], file: &[u8]) {
+    let mut gates = [show::UNWRITTEN; gate::LONGEST_WRITTEN];
     show::show(name);
-    end_list(operator::operator_to_gates(&file, &mut gates), &gates);
+    end_list(operator::operator_to_gates(file, &mut gates), &gates);
 }

@@ -54,7 +54,7 @@ const CHC: [u8; 65] = *b"\x01\
 
 // A unitary, by its gate list.
 fn unitary_case(name: &[u8], bytes: &[u8]) {
-    let mut gates = [show::UNWRITTEN; 7424];
+    let mut gates = [show::UNWRITTEN; gate::LONGEST_WRITTEN];
     show::show(name);
     match unitary_gates::unitary_to_gates(bytes, &mut gates) {
         Synthesis::Letters {
@@ -93,7 +93,7 @@ fn changed_case(name: &[u8], k: u8, first: u8) {
 
 fn refused() {
     unitary_case(b"64 bytes", &IDENTITY[..64]);
-    changed_case(b"unitary I, k 14", 14, 1);
+    changed_case(b"unitary I, k 30", 30, 1);
     changed_case(b"unitary I, k 1", 1, 1);
     changed_case(b"unitary I, first entry 2", 0, 2);
     changed_case(b"unitary I, first entry 2, k 2", 2, 2);

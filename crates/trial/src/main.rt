@@ -1,11 +1,11 @@
-// Document 01's trial cuts, and the cases of document 02, P1 to P5 and P7 to P9, run through the calls: a line for each case, with the answer. I is the
+// Document 01's trial cuts, and the cases of document 02, P1 to P5 and P7 to P10, run through the calls: a line for each case, with the answer. I is the
 // identity, and the six rows are those of the example of `cut`.
 
 // An entry of −1, in the 16 bits of an operator file.
 const MINUS_ONE: u16 = 65535;
 
 // The operator file of the example of `cut`, for k = 2: a row a line, two bytes an entry.
-const EXAMPLE: [u8; 73] = *b"\x02\
+const EXAMPLE: [u8; file::SHORT_LENGTH] = *b"\x02\
 \x01\0\x01\0\x01\0\0\0\0\0\xff\xff\
 \xff\xff\xff\xff\x01\0\0\0\0\0\xff\xff\
 \x01\0\xff\xff\xff\xff\0\0\0\0\xff\xff\
@@ -21,12 +21,12 @@ const BUNDLE: [u8; 35] = *b"\
 \0\0\x08\0\x11\0\x03\0";
 
 // The operator file of x times the identity, with another first entry.
-fn diagonal(k: u8, first: u16, x: u16) -> [u8; 73] {
+fn diagonal(k: u8, first: u16, x: u16) -> [u8; file::SHORT_LENGTH] {
     let lo = (x % 256) as u8;
     let hi = (x / 256) as u8;
-    let mut file = [0u8; 73];
+    let mut file = [0u8; file::SHORT_LENGTH];
     let mut at = 1usize;
-    while at < 73 {
+    while at < file::SHORT_LENGTH {
         file[at] = lo;
         file[at + 1] = hi;
         at += 14;
@@ -39,13 +39,13 @@ fn diagonal(k: u8, first: u16, x: u16) -> [u8; 73] {
 
 // The operator file of x times the identity, with another first entry, cut.
 fn cut_case(name: &[u8], k: u8, first: u16, x: u16) {
-    show::cut_case(name, diagonal(k, first, x));
+    show::cut_case(name, &diagonal(k, first, x));
 }
 
 fn operators() {
     cut_case(b"I, k 0", 0, 1, 1);
     cut_case(b"2 I, k 2", 2, 2, 2);
-    show::cut_case(b"the six rows, k 2", EXAMPLE);
+    show::cut_case(b"the six rows, k 2", &EXAMPLE);
 }
 
 fn limits() {
@@ -69,15 +69,15 @@ fn gate_lists() {
 }
 
 fn names() {
-    show_gates::same_case(b"HH", b": I", diagonal(0, 1, 1));
-    show_gates::same_case(b"ZZ", b": -I", diagonal(0, MINUS_ONE, MINUS_ONE));
-    show_gates::same_case(b"CCCCCCCC", b": I", diagonal(0, 1, 1));
+    show_gates::same_case(b"HH", b": I", &diagonal(0, 1, 1));
+    show_gates::same_case(b"ZZ", b": -I", &diagonal(0, MINUS_ONE, MINUS_ONE));
+    show_gates::same_case(b"CCCCCCCC", b": I", &diagonal(0, 1, 1));
 }
 
 fn listed() {
-    show_gates::list_case(b"gates of I", diagonal(0, 1, 1));
-    show_gates::list_case(b"gates of -I", diagonal(0, MINUS_ONE, MINUS_ONE));
-    show_gates::list_case(b"gates of the six rows", EXAMPLE);
+    show_gates::list_case(b"gates of I", &diagonal(0, 1, 1));
+    show_gates::list_case(b"gates of -I", &diagonal(0, MINUS_ONE, MINUS_ONE));
+    show_gates::list_case(b"gates of the six rows", &EXAMPLE);
 }
 
 fn sheets() {
@@ -149,4 +149,5 @@ fn main() {
     stored();
     show_qasm::cases();
     show_unitary::cases();
+    show_long::cases();
 }

@@ -122,8 +122,7 @@ loop-holds c =
     let k = s .args .k in
     let h = s .pre .0 in
     let l = some-byte (kindFor k) in
-    let z = no-entry (kindFor k) in
-    (
+    let z = no-entry (kindFor k) in (
       search needs,
       c .before .width-for .ensures,
       c .highest-for .ensures,
