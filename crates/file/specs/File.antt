@@ -118,13 +118,16 @@ abbrev pub fileByte : Kind → ℕ → List ℤ → ℕ → ℕ
 fileByte t k m zero = k
 fileByte t k m (suc p) = byteOf (bitsOf (highestOf t) (getD m (p / widthOf t) (pos 0))) (p % widthOf t)
 
--- the bytes of the file of an operator
+-- the file of this kind: "Byte 0 is k …. Then 36 entries"
+unfoldable pub fileAs : Kind → ℕ → List ℤ → List ℕ
+fileAs t k m = tabulate (fileByte t k m) 0 (lengthOf t)
+
+-- the file that is written, and how many bytes it has
+abbrev pub fileOf : ℕ → List ℤ → List ℕ
+fileOf k m = fileAs (kindFor k) k m
+
 abbrev pub lengthFor : ℕ → ℕ
 lengthFor k = lengthOf (kindFor k)
-
--- "Byte 0 is k …. Then 36 entries"
-unfoldable pub fileOf : ℕ → List ℤ → List ℕ
-fileOf k m = tabulate (fileByte (kindFor k) k m) 0 (lengthFor k)
 
 -- ---- what is read
 

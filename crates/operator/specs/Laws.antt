@@ -2,3 +2,4 @@
 pub mod Exactly
 pub mod Negative
 pub mod Promise
+pub mod Kinds

@@ -8,12 +8,11 @@ use lib.Dec.{eqb}
 use lib.IntN.{pos, negsuc, _*ℤ_}
 use lib.ListN.{take, replicate}
 use Rattle.matrix.specs.List.{sameList}
-use Rattle.matrix.specs.Range.{tabulate}
 use Rattle.matrix.specs.Matrix.{Matrix, δ, replaced, listed}
 use Rattle.matrix.specs.Array.{beforeOdd}
 use Rattle.file.specs.declared.Answer.{Answer}
 use Rattle.file.specs.declared.Answer.the-variants.{Count, Refused}
-use Rattle.file.specs.File.{Kind, shortFile, longFile, lengthOf, fileByte, fileOf}
+use Rattle.file.specs.File.{Kind, shortFile, longFile, fileAs, fileOf}
 use Rattle.letter.specs.declared.Gate.{Gate}
 use Rattle.letter.specs.declared.Gate.the-variants.{H1, Cz, Cs}
 use Rattle.gate.specs.Product.{productOf}
@@ -69,9 +68,9 @@ passes (bundleRefused b n r) = eqb (bundleRefusal b n) r
 passes (bundles s b) = eqb (sheetsRefusal s) 0 && sameList (sheetsBundle s) b
 passes (sheetsRefused s r) = eqb (sheetsRefusal s) r
 
--- a file of either kind, of an exponent that it may not be able to carry
+-- a file of either kind; the exponent may be one that its kind cannot carry
 abbrev file : Kind → ℕ → Matrix → List ℕ
-file t k M = tabulate (fileByte t k (listed M)) 0 (lengthOf t)
+file t k M = fileAs t k (listed M)
 
 -- a number times the identity
 abbrev times : ℕ → Matrix

@@ -13,7 +13,7 @@ use mir.Val.{toZ, ofZ}
 use Rattle.matrix.specs.Range.{tabulate}
 use Rattle.matrix.specs.Laws.Range.{length-tabulate, getD-tabulate}
 use Rattle.matrix.specs.Laws.Machine.{kept, mag-le}
-use Rattle.file.specs.File.{Kind, shortFile, longFile, kindFor, lengthFor, lengthOf, widthOf, highestOf, bitsOf, byteOf, fileByte, fileOf, Appended, written}
+use Rattle.file.specs.File.{Kind, shortFile, longFile, kindFor, lengthFor, lengthOf, widthOf, highestOf, bitsOf, byteOf, fileByte, fileAs, fileOf, Appended, written}
 use Rattle.file.specs.Laws.Bytes.{file-byte}
 use Rattle.file.specs.Laws.File.{length-file, some-byte}
 use Rattle.file.specs.Laws.Written.{written-over, tabulate-more, appended-as, appended-front, appended-append, appended-length}
@@ -185,7 +185,7 @@ same-length c =
     kept-length (kindFor (s .args .k)) (s .args .k) (s .args .t2) (l .n) _ _ (i .5) (i .0) (i .3) ∙ length-set (now (s .args .out)) 0 (s .args .k)
 
 returns : tie.Need-returns Inv-loop μ-loop
-unfolding fileOf
+unfolding fileAs
 returns c =
     let l = c .before .loop in
     let s = c .before .before .before .before .before in

@@ -14,7 +14,7 @@ use Rattle.matrix.specs.Array.{Bounded}
 use Rattle.matrix.specs.Laws.Test.{true-T}
 use Rattle.matrix.specs.Laws.Range.{length-tabulate, getD-tabulate, tabulate-is}
 use Rattle.matrix.specs.Laws.Array.{entry-flat, orthogonal-bounded}
-use Rattle.file.specs.File.{Kind, shortFile, longFile, shortLength, longLength, shortExponent, largestExponent, lengthOf, exponentOf, widthOf, highestOf, isLength, kindOf, kindFor, fileExponent, signedOf, entryOf, fileMatrix, fileOperator, InForm, Fits, bitsOf, fileByte, lengthFor, fileOf}
+use Rattle.file.specs.File.{Kind, shortFile, longFile, shortLength, longLength, shortExponent, largestExponent, lengthOf, exponentOf, widthOf, highestOf, isLength, kindOf, kindFor, fileExponent, signedOf, entryOf, fileMatrix, fileOperator, InForm, Fits, bitsOf, fileByte, fileAs, fileOf, lengthFor}
 use Rattle.file.specs.Laws.Bytes.{bits-lt, signed-bits, signed-size, bytes-entry, file-byte, entry-lt}
 
 -- ---- the kind of a file
@@ -68,38 +68,37 @@ some-byte longFile = omega arith
 
 -- ---- reading back
 
-module _ (k : ℕ) (m : List ℤ) where
-  pub length-file : length (fileOf k m) ≡ lengthFor k
-  unfolding fileOf
-  length-file = length-tabulate (fileByte (kindFor k) k m) 0 (lengthFor k)
+module _ (t : Kind) (k : ℕ) (m : List ℤ) where
+  pub length-as : length (fileAs t k m) ≡ lengthOf t
+  unfolding fileAs
+  length-as = length-tabulate (fileByte t k m) 0 (lengthOf t)
 
-  pub kind-back : kindOf (length (fileOf k m)) ≡ kindFor k
-  kind-back = ap kindOf length-file ∙ kind-of-length (kindFor k)
+  kind-as : kindOf (length (fileAs t k m)) ≡ t
+  kind-as = ap kindOf length-as ∙ kind-of-length t
 
-  byte-at : (p : ℕ) → p < lengthFor k → getD (fileOf k m) p 0 ≡ fileByte (kindFor k) k m p
-  unfolding fileOf
-  byte-at p h = let e : 0 + p ≡ p = omega arith in getD-tabulate (fileByte (kindFor k) k m) 0 (lengthFor k) p 0 h ∙ ap (fileByte (kindFor k) k m) e
+  byte-at : (p : ℕ) → p < lengthOf t → getD (fileAs t k m) p 0 ≡ fileByte t k m p
+  unfolding fileAs
+  byte-at p h = let e : 0 + p ≡ p = omega arith in getD-tabulate (fileByte t k m) 0 (lengthOf t) p 0 h ∙ ap (fileByte t k m) e
 
-  pub exponent-back : fileExponent (fileOf k m) ≡ k
-  exponent-back = byte-at 0 (some-byte (kindFor k))
+  pub exponent-as : fileExponent (fileAs t k m) ≡ k
+  exponent-as = byte-at 0 (some-byte t)
 
-  entry-back : Fits (kindFor k) m → (n : ℕ) → n < 36 → entryOf (kindOf (length (fileOf k m))) (fileOf k m) n ≡ getD m n (pos 0)
-  entry-back s n h =
-      let t = kindFor k in
-      let x = getD m n (pos 0) in
-      let f = s .below n h in
-      let e = bytes-entry t (fileOf k m) n (bitsOf (highestOf t) x) (bits-lt (highestOf t) x f) (λ j l. byte-at (1 + (widthOf t * n + j)) (places t n j h l) ∙ file-byte t k m n j l) in
-      ap (λ t. entryOf t (fileOf k m) n) kind-back ∙ ap (signedOf (highestOf t)) e ∙ signed-bits (highestOf t) x f
+  pub in-form-as : k ≤ exponentOf t → InForm (fileAs t k m)
+  in-form-as h = record { size = length-as ∙ ap lengthOf (sym kind-as); range = rw (exponent-as, kind-as) h }
 
-  pub matrix-back : Fits (kindFor k) m → length m ≡ 36 → fileMatrix (fileOf k m) ≡ m
-  unfolding fileMatrix
-  matrix-back s l = sym (tabulate-is (entryOf (kindOf (length (fileOf k m))) (fileOf k m)) 36 (pos 0) m l (λ n h. sym (entry-back s n h)))
+  module _ (f : Fits t m) where
+    entry-as : (n : ℕ) → n < 36 → entryOf (kindOf (length (fileAs t k m))) (fileAs t k m) n ≡ getD m n (pos 0)
+    entry-as n h =
+        let x = getD m n (pos 0) in
+        let e = bytes-entry t (fileAs t k m) n (bitsOf (highestOf t) x) (bits-lt (highestOf t) x (f .below n h)) (λ j l. byte-at (1 + (widthOf t * n + j)) (places t n j h l) ∙ file-byte t k m n j l) in
+        ap (λ u. entryOf u (fileAs t k m) n) kind-as ∙ ap (signedOf (highestOf t)) e ∙ signed-bits (highestOf t) x (f .below n h)
 
-  pub file-in-form : k ≤ largestExponent → InForm (fileOf k m)
-  file-in-form h = record {
-    size = length-file ∙ ap lengthOf (sym kind-back);
-    range = rw (exponent-back, kind-back) (kind-range k h);
-  }
+    pub matrix-as : length m ≡ 36 → fileMatrix (fileAs t k m) ≡ m
+    unfolding fileMatrix
+    matrix-as l = sym (tabulate-is (entryOf (kindOf (length (fileAs t k m))) (fileAs t k m)) 36 (pos 0) m l (λ n h. sym (entry-as n h)))
+
+    pub operator-as : length m ≡ 36 → fileOperator (fileAs t k m) ≡ operator k (entry m)
+    operator-as l = ap₂ (λ x y. operator x (entry y)) exponent-as (matrix-as l)
 
 -- ---- what is read
 
@@ -131,11 +130,29 @@ bounded-fits t b m h s = record {
 }
 
 -- every operator that a file may carry
-pub orthogonal-fits : (k : ℕ) (m : List ℤ) → k ≤ largestExponent → Orthogonal (operator k (entry m)) → Fits (kindFor k) m
-orthogonal-fits k m h o =
-    for-kind (λ t. Fits t m) k
-    (λ s. bounded-fits shortFile (2 ^ 14) m (omega arith) (orthogonal-bounded k 14 (entry m) o (omega arith)))
-    (λ l. bounded-fits longFile (2 ^ 30) m (omega arith) (orthogonal-bounded k 30 (entry m) o (omega arith)))
+pub kind-fits : (t : Kind) (k : ℕ) (m : List ℤ) → k ≤ exponentOf t → Orthogonal (operator k (entry m)) → Fits t m
+kind-fits shortFile k m h o = bounded-fits shortFile (2 ^ 14) m (omega arith) (orthogonal-bounded k 14 (entry m) o (omega arith))
+kind-fits longFile k m h o = bounded-fits longFile (2 ^ 30) m (omega arith) (orthogonal-bounded k 30 (entry m) o (omega arith))
 
-pub operator-back : (k : ℕ) (m : List ℤ) → k ≤ largestExponent → Orthogonal (operator k (entry m)) → length m ≡ 36 → fileOperator (fileOf k m) ≡ operator k (entry m)
-operator-back k m h o l = ap₂ (λ x y. operator x (entry y)) (exponent-back k m) (matrix-back k m (orthogonal-fits k m h o) l)
+pub orthogonal-fits : (k : ℕ) (m : List ℤ) → k ≤ largestExponent → Orthogonal (operator k (entry m)) → Fits (kindFor k) m
+orthogonal-fits k m h o = kind-fits (kindFor k) k m (kind-range k h) o
+
+-- ---- the file that is written
+
+module _ (k : ℕ) (m : List ℤ) where
+  pub length-file : length (fileOf k m) ≡ lengthFor k
+  length-file = length-as (kindFor k) k m
+
+  pub exponent-back : fileExponent (fileOf k m) ≡ k
+  exponent-back = exponent-as (kindFor k) k m
+
+  module _ (h : k ≤ largestExponent) where
+    pub file-in-form : InForm (fileOf k m)
+    file-in-form = in-form-as (kindFor k) k m (kind-range k h)
+
+    module _ (o : Orthogonal (operator k (entry m))) (l : length m ≡ 36) where
+      pub matrix-back : fileMatrix (fileOf k m) ≡ m
+      matrix-back = matrix-as (kindFor k) k m (orthogonal-fits k m h o) l
+
+      pub operator-back : fileOperator (fileOf k m) ≡ operator k (entry m)
+      operator-back = operator-as (kindFor k) k m (orthogonal-fits k m h o) l

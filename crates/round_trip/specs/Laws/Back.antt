@@ -20,7 +20,7 @@ use Rattle.clifford.specs.Laws.Columns.{Permutation, permutation-sound, permuta
 use Rattle.clifford.specs.Laws.Signed.{signed-permutation}
 use Rattle.sign.specs.Laws.Sign.{even-proper, proper-even, signed-even}
 use Rattle.file.specs.File.{fileExponent, fileMatrix, fileOperator}
-use Rattle.file.specs.Laws.File.{file-in-form, exponent-back, matrix-back, length-file-matrix, orthogonal-fits}
+use Rattle.file.specs.Laws.File.{file-in-form, exponent-back, matrix-back, length-file-matrix}
 use Rattle.reduction.specs.Reduction.{taken}
 use Rattle.acceptance.specs.Acceptance.{fileRefusal, isProper}
 use Rattle.acceptance.specs.Cutting.{fileNumbers, fileColumns}
@@ -125,7 +125,7 @@ module _ (b : List ℕ) (z : fileRefusal b ≡ 0) where
 
 module _ (s : List ℕ) (a : Accepted s) where
   matrix-read : fileMatrix (sheetFile s) ≡ sheetLeast s .matrix
-  matrix-read = matrix-back (sheetLeast s .exponent) (sheetLeast s .matrix) (orthogonal-fits (sheetLeast s .exponent) (sheetLeast s .matrix) (sheet-small s a) (least-orthogonal-sheet s a)) (sheet-long s a)
+  matrix-read = matrix-back (sheetLeast s .exponent) (sheetLeast s .matrix) (sheet-small s a) (least-orthogonal-sheet s a) (sheet-long s a)
 
   exponent-read : fileExponent (sheetFile s) ≡ sheetLeast s .exponent
   exponent-read = exponent-back (sheetLeast s .exponent) (sheetLeast s .matrix)

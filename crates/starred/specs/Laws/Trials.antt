@@ -8,7 +8,7 @@ use Rattle.matrix.specs.Range.{sum, everyFrom, firstFrom, tabulate, bits, total
 use Rattle.matrix.specs.Matrix.{δ, replaced, listed}
 use Rattle.matrix.specs.Determinant.{skip, det}
 use Rattle.matrix.specs.Array.{isOrthogonal, isWithin, rowMask, beforeOdd, leastForm}
-use Rattle.file.specs.File.{fileMatrix, fileOf}
+use Rattle.file.specs.File.{fileMatrix, fileAs}
 use Rattle.clifford.specs.Columns.{isEven, arePermutation, columnByte}
 use Rattle.residue.specs.Generator.{table, place, generator, fits, firstFit}
 use Rattle.grouping.specs.Grouping.{groupSize, inGroupsOf, isLoose}
@@ -24,5 +24,5 @@ use Rattle.order.specs.Order.{nearest, orderAnswer}
 use Rattle.starred.specs.Trials.{trials, allPass}
 
 pub trials-pass : allPass trials ≡ true
-unfolding trials parity sum everyFrom firstFrom tabulate bits total δ replaced listed skip det pow lib.IntN.one isOrthogonal isWithin rowMask beforeOdd leastForm fileMatrix fileOf isEven arePermutation columnByte table place generator fits firstFit groupSize inGroupsOf isLoose generators remainder looseCuts sheetBytes sheet normalForm image productOf leastOf fileRefusal sheetRefusal nearest orderAnswer startOf bundleRefusal sheetIn bundleOf sheetsRefusal sheetsBundle flatten
+unfolding trials parity sum everyFrom firstFrom tabulate bits total δ replaced listed skip det pow lib.IntN.one isOrthogonal isWithin rowMask beforeOdd leastForm fileMatrix fileAs isEven arePermutation columnByte table place generator fits firstFit groupSize inGroupsOf isLoose generators remainder looseCuts sheetBytes sheet normalForm image productOf leastOf fileRefusal sheetRefusal nearest orderAnswer startOf bundleRefusal sheetIn bundleOf sheetsRefusal sheetsBundle flatten
 trials-pass = refl
