@@ -5,7 +5,7 @@ use crate::matrix::{signed_permutation, SIZE};
 use crate::operator::Operator;
 
 /// The longest gate list that is read.
-pub const MAX_LETTERS: usize = 8192;
+pub const MAX_LETTERS: usize = 16_384;
 
 /// A gate list of count t that is written has at most this many times t + 1 letters.
 pub const LETTERS_PER_COUNT: usize = 256;

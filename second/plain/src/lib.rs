@@ -8,6 +8,7 @@
 #![forbid(unsafe_code)]
 
 pub mod bundle;
+pub mod file;
 pub mod form;
 pub mod gate;
 pub mod generator;
@@ -23,8 +24,9 @@ pub mod words;
 
 use std::cmp::Ordering;
 
+use file::{Kind, MAX_EXPONENT};
 use gate::{LETTERS_PER_COUNT, MAX_LETTERS};
-use operator::{Operator, MAX_EXPONENT, OPERATOR_BYTES};
+use operator::Operator;
 use sheet::Sheet;
 use unitary::Unitary;
 
@@ -174,9 +176,11 @@ fn nearest(thousandths: u64) -> u64 {
     }
 }
 
-/// Writes a least-exponent operator; its exponent is the count, for a cut lowers it by one.
+/// Writes a least-exponent operator, in a short file where that suffices; its exponent is the count, for a
+/// cut lowers it by one.
 fn write_operator(operator: &Operator, out: &mut [u8]) -> Result<u8, u8> {
-    operator.write(lend(out, OPERATOR_BYTES)?);
+    let kind = Kind::written(operator.exponent);
+    kind.write(operator, lend(out, kind.bytes())?);
     Ok(operator.exponent)
 }
 

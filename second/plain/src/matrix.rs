@@ -77,55 +77,59 @@ pub fn odd_bits(row: &[i64; SIZE]) -> u8 {
     bits.rev().fold(0, |bits, bit| bits << 1 | bit)
 }
 
-/// Whether the determinant of an orthogonal matrix is positive.
+/// Whether the determinant of a matrix is positive that is orthogonal with the given exponent k.
 ///
-/// An orthogonal matrix equals its matrix of cofactors up to a factor with the sign of the
-/// determinant, so one entry other than zero and its cofactor tell. The cofactor is a
-/// five-by-five determinant; the elimination of all six rows would not fit `i128`.
-pub fn has_positive_determinant(matrix: &Matrix) -> bool {
-    let first = &matrix[0];
-    let column = first.iter().position(|&entry| entry != 0);
-    column.is_some_and(|column| (first[column] > 0) == (cofactor(matrix, column) > 0))
+/// The matrix times its transpose is 2 to the power k, so the square of its determinant is 2 to the power
+/// 6 k, and the determinant itself 2 to the power 3 k or the negative of that. The two differ by a power of
+/// two, which no odd number above 1 divides: modulo [`PRIME`] they are still two, and which of them it is can
+/// be told there, where no number grows.
+pub fn has_positive_determinant(matrix: &Matrix, exponent: u8) -> bool {
+    determinant_is(matrix, power_of_two(3 * u32::from(exponent)))
 }
 
-/// The cofactor of the entry in the first row and the given column.
-fn cofactor(matrix: &Matrix, struck: usize) -> i128 {
-    let minor: [[i128; SIZE - 1]; SIZE - 1] = std::array::from_fn(|row| {
-        std::array::from_fn(|c| i128::from(matrix[row + 1][c + usize::from(c >= struck)]))
-    });
-    let sign = if struck.is_multiple_of(2) { 1 } else { -1 };
-    sign * determinant(minor)
+/// The modulus, an odd prime: 2 to this power, less 1.
+const PRIME_BITS: u32 = 31;
+const PRIME: i64 = (1 << PRIME_BITS) - 1;
+
+/// A power of two modulo the prime; 2 to the power 31 is 1 there.
+fn power_of_two(power: u32) -> i64 {
+    1 << (power % PRIME_BITS)
 }
 
-/// The determinant by fraction-free elimination (Bareiss).
+/// Whether the determinant is `expected` modulo the prime, which does not divide the determinant.
 ///
-/// After step s the entries are minors of s + 1 rows, and the divisions are exact. With entries
-/// of at most 2 to the power 14 the products of five rows stay below 2 to the power 122.
-fn determinant<const N: usize>(mut matrix: [[i128; N]; N]) -> i128 {
-    let mut sign = 1;
-    let mut divisor = 1;
-    for step in 0..N - 1 {
-        let Some(pivot) = (step..N).find(|&row| matrix[row][step] != 0) else {
-            return 0;
-        };
-        if pivot != step {
-            matrix.swap(pivot, step);
-            sign = -sign;
+/// The matrix is brought to a triangle. What that does to its determinant is done to `expected`: a row that
+/// is multiplied by the pivot multiplies it, two rows that change places turn its sign. In the end the
+/// determinant is the product of the diagonal.
+fn determinant_is(matrix: &Matrix, mut expected: i64) -> bool {
+    let mut matrix = matrix.map(|row| row.map(|entry| entry.rem_euclid(PRIME)));
+    let mut product = 1;
+    for step in 0..SIZE {
+        let pivot_row = (step..SIZE).find(|&row| matrix[row][step] != 0);
+        let pivot_row = pivot_row.expect("the prime does not divide the determinant");
+        if pivot_row != step {
+            matrix.swap(pivot_row, step);
+            expected = PRIME - expected;
         }
-        eliminate(&mut matrix, step, divisor);
-        divisor = matrix[step][step];
+        let pivot = matrix[step][step];
+        eliminate(&mut matrix, step);
+        for _ in step + 1..SIZE {
+            expected = expected * pivot % PRIME;
+        }
+        product = product * pivot % PRIME;
     }
-    sign * matrix[N - 1][N - 1]
+    product == expected
 }
 
-/// One step of the elimination, below and right of the pivot; `divisor` is the pivot before.
-fn eliminate<const N: usize>(matrix: &mut [[i128; N]; N], step: usize, divisor: i128) {
+/// Multiplies the rows below the pivot by it and clears its column there, modulo the prime; entries are from
+/// 0 to below it.
+fn eliminate(matrix: &mut Matrix, step: usize) {
     let pivot_row = matrix[step];
     for row in &mut matrix[step + 1..] {
         let first = row[step];
-        for column in step + 1..N {
+        for column in step..SIZE {
             let crossed = row[column] * pivot_row[step] - first * pivot_row[column];
-            row[column] = crossed / divisor;
+            row[column] = crossed.rem_euclid(PRIME);
         }
     }
 }
@@ -133,53 +137,112 @@ fn eliminate<const N: usize>(matrix: &mut [[i128; N]; N], step: usize, divisor: 
 #[cfg(test)]
 mod tests {
     use super::*;
+    use crate::file::MAX_EXPONENT;
     use crate::generator::GENERATORS;
 
-    /// The determinant by expansion along the first row.
-    fn expanded(matrix: &Matrix) -> i128 {
-        let term = |column| i128::from(matrix[0][column]) * cofactor(matrix, column);
-        (0..SIZE).map(term).sum()
+    /// The largest exponent for which a determinant can be expanded in `i128`: it is a sum of 720 products of
+    /// six entries, each product at most 2 to the power 3 k.
+    const MAX_EXPANDED: u8 = 39;
+
+    /// The determinant by expansion along the first row, whatever the number of rows is.
+    fn expanded(rows: &[Vec<i128>]) -> i128 {
+        let Some((first, rest)) = rows.split_first() else {
+            return 1;
+        };
+        let term = |struck: usize| {
+            let minor: Vec<Vec<i128>> = rest.iter().map(|row| without(row, struck)).collect();
+            let sign = if struck.is_multiple_of(2) { 1 } else { -1 };
+            sign * first[struck] * expanded(&minor)
+        };
+        (0..first.len()).map(term).sum()
+    }
+
+    fn without(row: &[i128], struck: usize) -> Vec<i128> {
+        [&row[..struck], &row[struck + 1..]].concat()
+    }
+
+    fn determinant(matrix: &Matrix) -> i128 {
+        let rows = matrix.map(|row| row.map(i128::from).to_vec());
+        expanded(&rows)
+    }
+
+    /// Orthogonal matrices with their exponents, through all of them, whose determinants are positive.
+    fn products() -> impl Iterator<Item = (Matrix, u8)> {
+        let steps = 0..usize::from(MAX_EXPONENT);
+        let products = steps.scan(IDENTITY, |product, step| {
+            let generator = &GENERATORS[(step * step + 3 * step) % GENERATORS.len()];
+            *product = multiply(product, &generator.matrix);
+            Some((*product, step as u8 + 1))
+        });
+        [(IDENTITY, 0)].into_iter().chain(products)
     }
 
     #[test]
     fn determinants_of_known_matrices() {
-        assert_eq!(determinant([[3, 1], [4, 2]]), 2);
-        assert_eq!(determinant([[0, 1], [1, 0]]), -1);
-        assert_eq!(determinant([[0, 2, 1], [0, 1, 5], [3, 0, 0]]), 27);
-        assert_eq!(determinant([[1, 2, 3], [4, 5, 6], [7, 8, 9]]), 0);
-        assert_eq!(determinant([[0, 1], [0, 1]]), 0);
-        assert_eq!(expanded(&scale(&IDENTITY, 16384)), 1 << 84);
+        let rows = |rows: &[&[i128]]| rows.iter().map(|row| row.to_vec()).collect::<Vec<_>>();
+        assert_eq!(expanded(&rows(&[&[3, 1], &[4, 2]])), 2);
+        assert_eq!(expanded(&rows(&[&[0, 1], &[1, 0]])), -1);
+        assert_eq!(expanded(&rows(&[&[0, 2, 1], &[0, 1, 5], &[3, 0, 0]])), 27);
+        assert_eq!(expanded(&rows(&[&[1, 2, 3], &[4, 5, 6], &[7, 8, 9]])), 0);
+        assert_eq!(determinant(&scale(&IDENTITY, 16384)), 1 << 84);
     }
 
     #[test]
-    fn largest_entries_do_not_overflow() {
-        let mut matrix = [[1 << 14; SIZE]; SIZE];
-        for (row, entries) in matrix.iter_mut().enumerate() {
-            for (column, entry) in entries.iter_mut().enumerate() {
-                if (row * row + 3 * row * column + column * column) % 7 < 3 {
-                    *entry = -*entry;
-                }
+    fn a_determinant_modulo_the_prime_is_that_of_its_expansion() {
+        let mut seed = 1i64;
+        for _ in 0..1000 {
+            let matrix = [[0; SIZE]; SIZE].map(|row: [i64; SIZE]| {
+                row.map(|_| {
+                    seed = (seed * 48_271) % PRIME;
+                    seed % 7 - 3
+                })
+            });
+            let expected = determinant(&matrix);
+            if expected % i128::from(PRIME) != 0 {
+                let expected = expected.rem_euclid(i128::from(PRIME)) as i64;
+                assert!(determinant_is(&matrix, expected));
+                assert!(!determinant_is(&matrix, PRIME - expected));
+                assert!(!determinant_is(&matrix, expected % PRIME + 1));
             }
         }
-        assert_eq!(
-            expanded(&matrix),
-            -expanded(&transpose(&negate_row(&matrix, 4)))
-        );
     }
 
     #[test]
-    fn sign_of_the_determinant_agrees_with_its_value() {
-        let mut matrix = IDENTITY;
-        for step in 0..28usize {
-            let generator = &GENERATORS[(step * step + 3 * step) % GENERATORS.len()];
-            matrix = multiply(&matrix, &generator.matrix);
-            while is_even(&matrix) {
-                matrix = halve(&matrix);
-            }
-            assert!(expanded(&matrix) > 0 && has_positive_determinant(&matrix));
-            let flipped = negate_row(&matrix, step % SIZE);
-            assert!(expanded(&flipped) < 0 && !has_positive_determinant(&flipped));
+    fn powers_of_two_are_those_modulo_the_prime() {
+        let mut doubled = 1;
+        for power in 0..=3 * u32::from(MAX_EXPONENT) {
+            assert_eq!(power_of_two(power), doubled);
+            doubled = 2 * doubled % PRIME;
         }
+    }
+
+    #[test]
+    fn the_sign_of_the_determinant_is_told_at_every_exponent() {
+        for (matrix, exponent) in products() {
+            assert!(has_positive_determinant(&matrix, exponent));
+            assert!(has_positive_determinant(&scale(&matrix, -1), exponent));
+            assert!(has_positive_determinant(&transpose(&matrix), exponent));
+            for row in 0..SIZE {
+                let flipped = negate_row(&matrix, row);
+                assert!(!has_positive_determinant(&flipped, exponent));
+                let mut swapped = matrix;
+                swapped.swap(row, (row + 1) % SIZE);
+                assert!(!has_positive_determinant(&swapped, exponent));
+            }
+            if exponent <= MAX_EXPANDED {
+                assert_eq!(determinant(&matrix), 1 << (3 * exponent));
+                let flipped = negate_row(&matrix, usize::from(exponent) % SIZE);
+                assert_eq!(determinant(&flipped), -1 << (3 * exponent));
+            }
+        }
+    }
+
+    #[test]
+    fn the_largest_entries_do_not_overflow() {
+        let largest = scale(&IDENTITY, 1 << (MAX_EXPONENT / 2));
+        assert!(has_positive_determinant(&largest, MAX_EXPONENT));
+        let flipped = negate_row(&largest, 3);
+        assert!(!has_positive_determinant(&flipped, MAX_EXPONENT));
     }
 
     #[test]

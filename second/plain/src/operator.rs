@@ -1,14 +1,9 @@
-//! Operators and operator files, by document 01, "Operators". A file that is read may carry any
-//! exponent; a file that is written carries that of the operator given.
+//! Operators and their files, by document 01, "Operators", and document 02, P10. A file that is read may
+//! carry any exponent; a file that is written carries that of the operator given.
 
-use crate::matrix::{self, Matrix, IDENTITY, SIZE};
+use crate::file::Kind;
+use crate::matrix::{self, Matrix, IDENTITY};
 use crate::refusal;
-
-/// The largest exponent of a file, and with it the largest count.
-pub const MAX_EXPONENT: u8 = 28;
-
-/// The length of an operator file.
-pub const OPERATOR_BYTES: usize = 1 + 2 * SIZE * SIZE;
 
 /// A matrix divided by root two to the power `exponent`.
 #[derive(Clone, Copy, Debug, PartialEq, Eq)]
@@ -24,13 +19,11 @@ impl Operator {
         exponent: 0,
     };
 
-    /// Reads and checks an operator file; the operator comes with its least exponent.
+    /// Reads and checks an operator file of either kind; the operator comes with its least exponent.
     pub fn read(file: &[u8]) -> Result<Operator, u8> {
-        if file.len() != OPERATOR_BYTES {
-            return Err(refusal::FILE_LENGTH);
-        }
-        let operator = Operator::decode(file);
-        if operator.exponent > MAX_EXPONENT {
+        let kind = Kind::of_length(file.len()).ok_or(refusal::FILE_LENGTH)?;
+        let operator = kind.decode(file);
+        if operator.exponent > kind.max_exponent() {
             return Err(refusal::EXPONENT_TOO_LARGE);
         }
         if operator.has_large_entry() {
@@ -43,25 +36,6 @@ impl Operator {
             return Err(refusal::NOT_PROPER);
         }
         Ok(operator.reduced())
-    }
-
-    /// Takes a file of the right length apart.
-    fn decode(file: &[u8]) -> Operator {
-        let entry = |at: usize| i64::from(i16::from_le_bytes([file[at], file[at + 1]]));
-        let row = |r: usize| std::array::from_fn(|c| entry(1 + 2 * (SIZE * r + c)));
-        Operator {
-            matrix: std::array::from_fn(row),
-            exponent: file[0],
-        }
-    }
-
-    /// Writes the operator file over the whole of `out`, which has its length.
-    pub fn write(&self, out: &mut [u8]) {
-        out[0] = self.exponent;
-        let entries = self.matrix.iter().flatten();
-        for (bytes, &entry) in out[1..].chunks_exact_mut(2).zip(entries) {
-            bytes.copy_from_slice(&(entry as i16).to_le_bytes());
-        }
     }
 
     /// The product; the exponents add.
@@ -120,53 +94,59 @@ impl Operator {
 
     /// Whether the determinant of an orthogonal operator is positive.
     pub fn is_proper(&self) -> bool {
-        matrix::has_positive_determinant(&self.matrix)
+        matrix::has_positive_determinant(&self.matrix, self.exponent)
     }
 }
 
 #[cfg(test)]
 mod tests {
     use super::*;
-
-    fn file_of(operator: &Operator) -> [u8; OPERATOR_BYTES] {
-        let mut file = [0; OPERATOR_BYTES];
-        operator.write(&mut file);
-        file
-    }
-
-    #[test]
-    fn a_file_has_low_bytes_first_and_signs() {
-        let mut operator = Operator::IDENTITY;
-        operator.matrix[0][1] = -2;
-        operator.matrix[5][5] = 0x1234;
-        operator.exponent = 7;
-        let file = file_of(&operator);
-        assert_eq!(file[..5], [7, 1, 0, 254, 255]);
-        assert_eq!(file[71..], [0x34, 0x12]);
-        assert_eq!(Operator::decode(&file), operator);
-    }
+    use crate::file::MAX_EXPONENT;
 
     #[test]
     fn reading_brings_every_exponent_to_the_least() {
-        for half in 0..=14 {
+        for half in 0..=MAX_EXPONENT / 2 {
             let doubled = Operator {
                 matrix: matrix::scale(&IDENTITY, 1 << half),
                 exponent: 2 * half,
             };
-            assert_eq!(Operator::read(&file_of(&doubled)), Ok(Operator::IDENTITY));
+            for kind in Kind::ALL {
+                let read = if doubled.exponent <= kind.max_exponent() {
+                    Ok(Operator::IDENTITY)
+                } else {
+                    Err(refusal::EXPONENT_TOO_LARGE)
+                };
+                assert_eq!(Operator::read(&kind.file(&doubled)), read);
+            }
         }
     }
 
+    /// The lowest and the highest that the kinds hold, and those around the largest that is not too large.
     #[test]
-    fn the_lowest_entry_is_too_large_at_every_exponent() {
-        for exponent in 0..=MAX_EXPONENT {
-            let mut operator = Operator::IDENTITY;
-            operator.matrix[3][2] = i64::from(i16::MIN);
-            operator.exponent = exponent;
-            assert_eq!(
-                Operator::read(&file_of(&operator)),
-                Err(refusal::ENTRY_TOO_LARGE)
-            );
+    fn an_entry_whose_square_exceeds_the_power_is_too_large() {
+        for kind in Kind::ALL {
+            for exponent in 0..=kind.max_exponent() {
+                let most = (1i64 << exponent).isqrt();
+                let (lowest, highest) = kind.range();
+                for entry in [most + 1, -most - 1, lowest, lowest + 1, highest] {
+                    let read = Operator::read(&kind.file(&with_entry(entry, exponent)));
+                    assert_eq!(read, Err(refusal::ENTRY_TOO_LARGE));
+                }
+                for entry in [most, -most] {
+                    let read = Operator::read(&kind.file(&with_entry(entry, exponent)));
+                    assert_eq!(read, Err(refusal::NOT_ORTHOGONAL));
+                }
+            }
         }
+    }
+
+    /// A matrix of zeros but for one entry.
+    fn with_entry(entry: i64, exponent: u8) -> Operator {
+        let mut operator = Operator {
+            matrix: matrix::scale(&IDENTITY, 0),
+            exponent,
+        };
+        operator.matrix[3][2] = entry;
+        operator
     }
 }

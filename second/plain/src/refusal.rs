@@ -1,9 +1,10 @@
 //! The numbers of the refusals, in the order of document 01, "What can be turned away"; of document
-//! 02, 16 follows 10 (P4), 15 follows 12 (P2), and 17 to 19 (P5), 20 to 22 (P7) and 23 (P8) come last.
+//! 02, 16 follows 10 (P4), 15 follows 12 (P2), and 17 to 19 (P5), 20 to 22 (P7) and 23 (P8) come last. The
+//! limits are those of P10.
 
-/// An operator file whose length is not 73.
+/// An operator file whose length is neither 73 nor 145.
 pub const FILE_LENGTH: u8 = 1;
-/// An operator file with k above 28.
+/// An operator file of 73 bytes with k above 28, or of 145 bytes with k above 60.
 pub const EXPONENT_TOO_LARGE: u8 = 2;
 /// An entry whose square exceeds 2 to the power k.
 pub const ENTRY_TOO_LARGE: u8 = 3;
@@ -13,13 +14,13 @@ pub const NOT_ORTHOGONAL: u8 = 4;
 pub const NOT_PROPER: u8 = 5;
 /// An output buffer that is too short.
 pub const BUFFER_TOO_SHORT: u8 = 6;
-/// A gate list of more than 8,192 letters, or a text of more than 8,192 statements.
+/// A gate list of more than 16,384 letters, or a text of more than 16,384 statements.
 pub const TOO_MANY_LETTERS: u8 = 7;
 /// A byte that is no letter of the table.
 pub const UNKNOWN_LETTER: u8 = 8;
-/// A beginning of a gate list whose product has a least exponent above 28.
+/// A beginning of a gate list whose product has a least exponent above 60.
 pub const BEGINNING_TOO_DEEP: u8 = 9;
-/// A sheet of fewer than 8 or more than 36 bytes.
+/// A sheet of fewer than 8 or more than 68 bytes.
 pub const SHEET_LENGTH: u8 = 10;
 /// A first byte that is not the length of the sheet plus 56.
 pub const SHEET_COUNT: u8 = 16;
@@ -31,9 +32,9 @@ pub const NO_CLIFFORD: u8 = 12;
 pub const SHEET_SIGN: u8 = 15;
 /// A sheet whose operator has another sheet.
 pub const OTHER_SHEET: u8 = 13;
-/// An order with t above 28 or p above 1000.
+/// An order with t above 60 or p above 1000.
 pub const ORDER_OUT_OF_RANGE: u8 = 14;
-/// A unitary whose length is not 65, or with k above 13.
+/// A unitary whose length is not 65, or with k above 29.
 pub const UNITARY_SHAPE: u8 = 17;
 /// An entry of a unitary whose squared size exceeds 2 to the power k.
 pub const UNITARY_ENTRY: u8 = 18;

@@ -1,11 +1,12 @@
 //! Sheets: the rule of cutting, by document 01, "The rule of cutting", and document 02, P3, and their
 //! bytes, by document 02, P2 and P4.
 
+use crate::file::MAX_EXPONENT;
 use crate::generator::{GENERATORS, GENERATOR_COUNT};
 use crate::matrix::{
     halve, multiply, odd_bits, scale, signed_permutation, transpose, Matrix, SIZE,
 };
-use crate::operator::{Operator, MAX_EXPONENT};
+use crate::operator::Operator;
 use crate::refusal;
 
 /// The shortest sheet, that of a Clifford: the first byte, six columns and the last byte.

@@ -8,7 +8,7 @@ use crate::refusal;
 pub const SIZE: usize = 4;
 
 /// The largest exponent that is read.
-pub const MAX_EXPONENT: u8 = 13;
+pub const MAX_EXPONENT: u8 = 29;
 
 /// The length of a unitary: the exponent, and two parts of 16 bits for each entry.
 pub const UNITARY_BYTES: usize = 1 + 4 * SIZE * SIZE;

@@ -137,8 +137,8 @@ fn split(generator: &Generator, left: &Operator) -> Option<(Operator, Operator)>
 #[cfg(test)]
 mod tests {
     use super::*;
+    use crate::file::Kind;
     use crate::gate::{image, LETTERS_PER_COUNT};
-    use crate::operator::OPERATOR_BYTES;
     use crate::sheet::clifford;
     use crate::stretch::cz_gates;
 
@@ -225,8 +225,7 @@ mod tests {
 
     #[test]
     fn the_letters_past_the_list_are_kept() {
-        let mut file = [0; OPERATOR_BYTES];
-        Operator::IDENTITY.write(&mut file);
+        let file = Kind::Short.file(&Operator::IDENTITY);
         let mut out = [7; 300];
         let none = crate::Letters {
             count: 0,

@@ -3,7 +3,8 @@
 
 mod walks;
 
-use plain::operator::{Operator, OPERATOR_BYTES};
+use plain::file::LONG_BYTES;
+use plain::operator::Operator;
 use plain::sheet::{columns, Sheet, MAX_SHEET, MIN_SHEET};
 use plain::sheet_to_operator;
 
@@ -16,7 +17,7 @@ fn bytes(operator: Operator) -> Vec<u8> {
 
 /// What the call that reads a sheet answers.
 fn read(sheet: &[u8]) -> Result<u8, u8> {
-    sheet_to_operator(sheet, &mut [0; OPERATOR_BYTES])
+    sheet_to_operator(sheet, &mut [0; LONG_BYTES])
 }
 
 #[test]

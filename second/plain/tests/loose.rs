@@ -2,10 +2,11 @@
 
 mod walks;
 
+use plain::file::{Kind, MAX_EXPONENT};
 use plain::gate::{image, CLIFFORD_LETTERS};
 use plain::generator::GENERATORS;
 use plain::matrix::{scale, SIZE};
-use plain::operator::{Operator, MAX_EXPONENT, OPERATOR_BYTES};
+use plain::operator::Operator;
 use plain::sheet::{Sheet, MAX_SHEET};
 use plain::{operator_to_sheet, Cuts};
 
@@ -73,8 +74,7 @@ fn a_larger_exponent_has_the_same() {
         };
         let mut larger = operator;
         while larger.exponent <= MAX_EXPONENT {
-            let mut file = [0; OPERATOR_BYTES];
-            larger.write(&mut file);
+            let file = Kind::written(larger.exponent).file(&larger);
             assert_eq!(operator_to_sheet(&file, &mut [0; MAX_SHEET]), Ok(cuts));
             larger = doubled(&larger);
         }

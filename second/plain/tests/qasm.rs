@@ -1,6 +1,6 @@
 //! Document 02, P8: gate lists written as OpenQASM 2.0 text, and read from it.
 
-use plain::operator::OPERATOR_BYTES;
+use plain::file::LONG_BYTES;
 use plain::{gates_to_operator, gates_to_qasm, qasm_to_gates};
 
 /// What an untouched byte of an output buffer holds.
@@ -26,10 +26,10 @@ const WRITTEN: [(u8, &str); 6] = [
 const REVERSED: [(u8, &str); 2] = [(b'Z', "cz q[1],q[0];\n"), (b'C', "cu1(pi/2) q[1],q[0];\n")];
 
 /// The most letters of a list that is written, and the most statements of a text that is read.
-const FULL: usize = 8192;
+const FULL: usize = 16_384;
 
 /// The longest text that is written.
-const LONGEST: usize = 172_079;
+const LONGEST: usize = 344_111;
 
 /// Lines that are none of those of a text.
 const WRONG_LINES: [&str; 75] = [
@@ -264,8 +264,8 @@ fn the_longest_text() {
 
 #[test]
 fn no_depth_is_too_deep() {
-    let list = b"ChH".repeat(40);
-    let file = &mut [0; OPERATOR_BYTES];
+    let list = b"ChH".repeat(80);
+    let file = &mut [0; LONG_BYTES];
     assert_eq!(gates_to_operator(&list, file), Err(9));
     assert_written(&list, &text_of(&list));
     assert_read(&text_of(&list), &list);

@@ -2,23 +2,24 @@
 
 mod walks;
 
+use plain::file::{Kind, MAX_EXPONENT};
 use plain::generator::GENERATORS;
-use plain::operator::{Operator, MAX_EXPONENT, OPERATOR_BYTES};
+use plain::operator::Operator;
 use plain::sheet::{Sheet, MAX_SHEET, MINUS, MIN_SHEET};
 use plain::words::Words;
 use plain::{gates_to_operator, operator_to_gates, operator_to_sheet, sheet_to_operator};
 
 /// Operator to sheet and to gates, and both back; answers the count.
 fn round_trip(operator: &Operator) -> u8 {
-    let mut file = [0; OPERATOR_BYTES];
-    operator.write(&mut file);
+    let kind = Kind::written(operator.exponent);
+    let file = kind.file(operator);
     let mut sheet = [0; MAX_SHEET];
     let cuts = operator_to_sheet(&file, &mut sheet).expect("a proper operator");
     let count = cuts.count;
     assert_eq!(count, operator.exponent);
     assert!(cuts.loose < count.max(1));
 
-    let mut back = [0; OPERATOR_BYTES];
+    let mut back = vec![0; kind.bytes()];
     let sheet = &sheet[..usize::from(count) + MIN_SHEET];
     assert_eq!(sheet_to_operator(sheet, &mut back), Ok(count));
     assert_eq!(back, file);
@@ -27,10 +28,9 @@ fn round_trip(operator: &Operator) -> u8 {
     let written = operator_to_gates(&file, &mut list).unwrap();
     assert_eq!((written.count, written.loose), (count, cuts.loose));
     let list = &list[..written.letters];
-    let mut back = [0; OPERATOR_BYTES];
+    let mut back = vec![0; kind.bytes()];
     assert_eq!(gates_to_operator(list, &mut back), Ok(count));
-    operator.with_sign(written.sign).write(&mut file);
-    assert_eq!(back, file);
+    assert_eq!(back, kind.file(&operator.with_sign(written.sign)));
     count
 }
 

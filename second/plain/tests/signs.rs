@@ -5,9 +5,10 @@ mod walks;
 
 use std::collections::HashMap;
 
+use plain::file::{Kind, LONG_BYTES};
 use plain::gate::clifford;
 use plain::matrix::SIZE;
-use plain::operator::{Operator, OPERATOR_BYTES};
+use plain::operator::Operator;
 use plain::sheet::{self, Sheet, MINUS};
 use plain::sheet_to_operator;
 use plain::words::Words;
@@ -25,16 +26,16 @@ fn sheet(operator: &Operator) -> (Vec<u8>, u8) {
 }
 
 /// The file of the operator of a sheet.
-fn read(beginning: &[u8], last: u8) -> [u8; OPERATOR_BYTES] {
-    let mut file = [0; OPERATOR_BYTES];
-    sheet_to_operator(&[beginning, &[last]].concat(), &mut file).expect("a sheet of an operator");
+fn read(beginning: &[u8], last: u8) -> Vec<u8> {
+    let mut file = vec![0; LONG_BYTES];
+    let count = sheet_to_operator(&[beginning, &[last]].concat(), &mut file);
+    let count = count.expect("a sheet of an operator");
+    file.truncate(Kind::written(count).bytes());
     file
 }
 
-fn file(operator: &Operator) -> [u8; OPERATOR_BYTES] {
-    let mut file = [0; OPERATOR_BYTES];
-    operator.write(&mut file);
-    file
+fn file(operator: &Operator) -> Vec<u8> {
+    Kind::written(operator.exponent).file(operator)
 }
 
 /// Every Clifford, whether its column 1 is positive or negative.

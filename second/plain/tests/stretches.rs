@@ -3,7 +3,8 @@
 
 mod walks;
 
-use plain::operator::{Operator, OPERATOR_BYTES};
+use plain::file::{Kind, LONG_BYTES, MAX_EXPONENT};
+use plain::operator::Operator;
 use plain::sheet::clifford;
 use plain::stretch::{crossings, cz_gates, product, stretches};
 use plain::words::Words;
@@ -15,10 +16,8 @@ fn cliffords() -> impl Iterator<Item = Operator> {
     columns.map(clifford)
 }
 
-fn file(operator: &Operator) -> [u8; OPERATOR_BYTES] {
-    let mut file = [0; OPERATOR_BYTES];
-    operator.write(&mut file);
-    file
+fn file(operator: &Operator) -> Vec<u8> {
+    Kind::written(operator.exponent).file(operator)
 }
 
 /// The gate list of an operator, and its sign.
@@ -31,9 +30,10 @@ fn list(operator: &Operator) -> (Vec<u8>, u8) {
 }
 
 /// The file of a gate list's operator.
-fn file_of_list(list: &[u8]) -> [u8; OPERATOR_BYTES] {
-    let mut file = [0; OPERATOR_BYTES];
-    gates_to_operator(list, &mut file).expect("a list that is not refused");
+fn file_of_list(list: &[u8]) -> Vec<u8> {
+    let mut file = vec![0; LONG_BYTES];
+    let count = gates_to_operator(list, &mut file).expect("a list that is not refused");
+    file.truncate(Kind::written(count).bytes());
     file
 }
 
@@ -79,7 +79,7 @@ fn the_negative_has_the_same_letters_and_the_other_sign() {
 
 #[test]
 fn both_signs_come_at_every_count() {
-    let mut times = [[0; 2]; 29];
+    let mut times = [[0; 2]; MAX_EXPONENT as usize + 1];
     for operator in walks::walks().flatten().chain(cliffords()) {
         let (_, sign) = list(&operator);
         times[usize::from(operator.exponent)][usize::from(sign)] += 1;

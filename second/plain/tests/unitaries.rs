@@ -1,8 +1,8 @@
 //! Document 02, P5: four-by-four unitaries into gate lists and a power of ω.
 
+use plain::file::Kind;
 use plain::form;
 use plain::omega::{Number, POWERS};
-use plain::operator::OPERATOR_BYTES;
 use plain::stretch::{crossings, cz_gates, product, stretches};
 use plain::unitary::{multiply, scale, transpose, Unitary, MAX_EXPONENT, UNITARY_BYTES};
 use plain::{operator_to_gates, unitary_to_gates, UnitaryLetters};
@@ -11,7 +11,7 @@ use plain::{operator_to_gates, unitary_to_gates, UnitaryLetters};
 const UNTOUCHED: u8 = 0xA5;
 
 /// The length of a buffer that holds the gate list of any unitary.
-const BUFFER: usize = 256 * 29;
+const BUFFER: usize = 256 * 61;
 
 /// The entries of a matrix, row by row, each as its real and its imaginary part.
 type Rows = [[(i64, i64); 4]; 4];
@@ -167,10 +167,11 @@ fn known_unitaries_have_their_lists() {
 }
 
 #[test]
-fn an_exponent_above_13_or_another_length_is_refused_first() {
-    assert_refused(&bytes(&diagonal(14, (128, 0))), 17);
-    assert_refused(&bytes(&diagonal(14, (129, 0))), 17);
-    assert_refused(&bytes(&diagonal(14, N)), 17);
+fn an_exponent_above_29_or_another_length_is_refused_first() {
+    assert_refused(&bytes(&diagonal(30, (32_767, 0))), 17);
+    assert_refused(&bytes(&diagonal(30, (1 << 14, 1 << 14))), 17);
+    assert_refused(&bytes(&diagonal(30, N)), 17);
+    assert_refused(&bytes(&diagonal(31, N)), 17);
     assert_refused(&bytes(&diagonal(255, (1, 0))), 17);
     let identity = bytes(&Unitary::IDENTITY);
     for len in (0..100).filter(|&len| len != UNITARY_BYTES) {
@@ -180,14 +181,18 @@ fn an_exponent_above_13_or_another_length_is_refused_first() {
         assert_refused(&vec![127; len], 17);
     }
     kept(&diagonal(13, (64, 64)));
-    kept(&diagonal(12, (64, 0)));
+    kept(&diagonal(14, (128, 0)));
+    kept(&diagonal(28, (1 << 14, 0)));
+    kept(&diagonal(29, (1 << 14, 1 << 14)));
+    kept(&diagonal(29, (-1 << 14, 1 << 14)));
 }
 
 #[test]
 fn a_large_entry_is_refused_before_what_is_not_unitary() {
     for exponent in 0..=MAX_EXPONENT {
         let most = 1i64 << exponent;
-        for re in 0..=most.isqrt() {
+        let root = most.isqrt();
+        for re in (0..root).step_by(1 + root as usize / 100).chain([root]) {
             let largest = (most - re * re).isqrt();
             for (im, refusal) in [(largest, 19), (largest + 1, 18)] {
                 for entry in [(re, im), (-im, re), (-re, -im), (im, -re)] {
@@ -199,8 +204,10 @@ fn a_large_entry_is_refused_before_what_is_not_unitary() {
         }
     }
     let lowest = i64::from(i16::MIN);
-    assert_refused(&bytes(&diagonal(13, (lowest, lowest))), 18);
-    assert_refused(&bytes(&diagonal(13, (0, lowest))), 18);
+    for exponent in [13, 29] {
+        assert_refused(&bytes(&diagonal(exponent, (lowest, lowest))), 18);
+        assert_refused(&bytes(&diagonal(exponent, (0, lowest))), 18);
+    }
 }
 
 #[test]
@@ -266,6 +273,25 @@ fn a_list_comes_back_with_no_more_c() {
 }
 
 #[test]
+fn every_count_up_to_twice_the_largest_exponent_comes_back() {
+    let list = b"ChHZH".repeat(60);
+    let beginnings = (0..=list.len()).map(|end| &list[..end]);
+    let mut counts = vec![];
+    for beginning in beginnings {
+        let unitary = Unitary::product(beginning).gaussian();
+        if unitary.exponent > MAX_EXPONENT {
+            assert_refused(&bytes(&unitary), 17);
+            continue;
+        }
+        let (answer, _) = kept(&unitary);
+        assert_eq!(usize::from(answer.count), cs_gates(beginning));
+        counts.push(answer.count);
+    }
+    counts.dedup();
+    assert_eq!(counts, (0..=2 * MAX_EXPONENT).collect::<Vec<u8>>());
+}
+
+#[test]
 fn a_larger_exponent_or_another_power_of_omega_has_the_same_letters() {
     for (_, unitary) in of_lists().take(400) {
         let (answer, list) = kept(&unitary);
@@ -291,8 +317,7 @@ fn the_letters_are_those_of_the_form_and_of_its_negative() {
         let images = product(&list).reduced();
         assert!(form == images || form == images.negative());
         for form in [form, form.negative()] {
-            let mut file = [0; OPERATOR_BYTES];
-            form.write(&mut file);
+            let file = Kind::written(form.exponent).file(&form);
             let mut out = vec![UNTOUCHED; BUFFER];
             let written = operator_to_gates(&file, &mut out).expect("an accepted operator");
             assert_eq!((written.count, written.loose), (answer.count, answer.loose));

@@ -1,8 +1,9 @@
 //! Operators that grow by a generator and a Clifford letter at a time, through every count.
 
+use plain::file::MAX_EXPONENT;
 use plain::gate::{image, CLIFFORD_LETTERS};
 use plain::generator::GENERATORS;
-use plain::operator::{Operator, MAX_EXPONENT};
+use plain::operator::Operator;
 
 /// An operator of each count from 0 up, for each of some ways to walk.
 pub fn walks() -> impl Iterator<Item = Vec<Operator>> {
