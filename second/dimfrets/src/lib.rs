@@ -6,7 +6,7 @@
 //!
 //! # Example
 //!
-//! The operator of `CHC`: a file of the exponent k and 36 entries, low byte first.
+//! The operator of `CHC`: a file of the exponent k and 36 entries of 16 bits, low byte first.
 //!
 //! ```
 //! let rows: [[i16; 6]; 6] = [
@@ -50,10 +50,29 @@
 //! let written = dimfrets::operator_to_gates(&file(1), &mut list)?;
 //! assert_eq!((written.count, written.loose), (2, 1));
 //!
-//! let mut product = [0; dimfrets::OPERATOR_BYTES];
+//! let mut product = [0; dimfrets::SHORT_OPERATOR_BYTES];
 //! dimfrets::gates_to_operator(&list[..written.letters], &mut product)?;
 //! let said = if written.sign == 0 { file(1) } else { file(-1) };
 //! assert_eq!(product[..], said);
+//! # Ok::<(), dimfrets::Refusal>(())
+//! ```
+//!
+//! An operator of count 40: its file is a long one, with entries of 32 bits. What is written is as long as its
+//! count says, in a buffer that takes either kind, and a part of it of that length is read back.
+//!
+//! ```
+//! let list = b"ChH".repeat(40);
+//! let mut buffer = [0; dimfrets::LONG_OPERATOR_BYTES];
+//! let count = dimfrets::gates_to_operator(&list, &mut buffer)?;
+//! assert_eq!(count, 40);
+//! let file = &buffer[..dimfrets::operator_bytes(count)];
+//! assert_eq!((file.len(), file[0]), (145, 40));
+//!
+//! let mut sheet = [0; dimfrets::MAX_SHEET];
+//! let cuts = dimfrets::operator_to_sheet(file, &mut sheet)?;
+//! assert_eq!(cuts.count, 40);
+//! assert_eq!(sheet[0], 64 + 40);
+//! assert_eq!(dimfrets::operator_bytes(28), 73);
 //! # Ok::<(), dimfrets::Refusal>(())
 //! ```
 //!
@@ -91,7 +110,7 @@
 //!
 //! let sheet = dimfrets::bundle_sheet(bundle, 1)?;
 //! assert_eq!(sheet, &bundle[8..18]);
-//! let mut file = [0; dimfrets::OPERATOR_BYTES];
+//! let mut file = [0; dimfrets::SHORT_OPERATOR_BYTES];
 //! assert_eq!(dimfrets::sheet_to_operator(sheet, &mut file), Ok(2));
 //! # Ok::<(), dimfrets::Refusal>(())
 //! ```
@@ -124,16 +143,23 @@ mod refusal;
 
 pub use refusal::Refusal;
 
-/// The length of an operator file.
-pub const OPERATOR_BYTES: usize = 73;
+/// The length of a short operator file, with entries of 16 bits.
+pub const SHORT_OPERATOR_BYTES: usize = 73;
+/// The length of a long operator file, with entries of 32 bits; a buffer of this length holds any that is
+/// written.
+pub const LONG_OPERATOR_BYTES: usize = 145;
+/// The largest exponent k of a short operator file.
+pub const MAX_SHORT_EXPONENT: u8 = 28;
+/// The largest exponent k of a long operator file, and with it the largest count.
+pub const MAX_COUNT: u8 = 60;
 /// The length of a unitary.
 pub const UNITARY_BYTES: usize = 65;
 /// The length of the longest sheet.
-pub const MAX_SHEET: usize = 36;
+pub const MAX_SHEET: usize = 8 + MAX_COUNT as usize;
 /// The length of the longest gate list that is read, also from a text.
-pub const MAX_LETTERS: usize = 8192;
+pub const MAX_LETTERS: usize = 16_384;
 /// The length of a buffer that holds the gate list of any operator or unitary.
-pub const GATES_BUFFER: usize = 256 * 29;
+pub const GATES_BUFFER: usize = 256 * (MAX_COUNT as usize + 1);
 /// The most sheets of a bundle.
 pub const MAX_SHEETS: usize = 512;
 /// The length of a buffer that holds any bundle written: for each sheet its bytes and two of its
@@ -187,8 +213,19 @@ extern "C" {
     fn dimfrets_qasm_to_gates(i: *const u8, i_len: usize, o: *mut u8, o_len: usize) -> u64;
 }
 
+/// The length of the operator file that is written for a count: that of a short one where it suffices.
+pub fn operator_bytes(count: u8) -> usize {
+    if count <= MAX_SHORT_EXPONENT {
+        SHORT_OPERATOR_BYTES
+    } else {
+        LONG_OPERATOR_BYTES
+    }
+}
+
 /// Cuts an operator file into its sheet and answers the count t and L, which is below t, or 0 where t
-/// is. The sheet has t + 8 bytes: 64 + t, t generator numbers, six columns of a Clifford whose column 1
+/// is. The file is a byte k and 36 entries row by row, low byte first, two's complement: 73 bytes with k at
+/// most 28 and entries of 16 bits, or 145 bytes with k at most 60 and entries of 32 bits; both kinds of one
+/// operator have one result. The sheet has t + 8 bytes: 64 + t, t generator numbers, six columns of a Clifford whose column 1
 /// is positive, and a last byte, 0 for their product and 1 for its negative. Two operators agree up to
 /// sign exactly when their sheets agree before the last byte. Sheets laid end to end can be told apart:
 /// each is as long as its first byte less 56.
@@ -198,7 +235,7 @@ pub fn operator_to_sheet(file: &[u8], out: &mut [u8]) -> Result<Cuts, Refusal> {
     cuts(run(dimfrets_operator_to_sheet, file, out))
 }
 
-/// Cuts an operator file into a gate list of t letters C, the fewest for the operator and for its negative;
+/// Cuts an operator file of either kind into a gate list of t letters C, the fewest for the operator and for its negative;
 /// `out` has at least 256 × (t + 1) bytes. Each stretch without C, the ends included, has as many Z as there
 /// are indices among 1 to 3 that it sends to 4 to 6; no Clifford letters with that product, up to sign,
 /// have fewer. The list multiplies to the operator if the sign is 0, and to its negative if it is 1.
@@ -209,7 +246,7 @@ pub fn operator_to_gates(file: &[u8], out: &mut [u8]) -> Result<Letters, Refusal
 }
 
 /// Cuts a four-by-four unitary into a gate list of t letters C, the fewest for the unitary up to a power of
-/// ω; `out` has at least 256 × (t + 1) bytes. The unitary has 65 bytes: the exponent k, at most 13, and 16
+/// ω; `out` has at least 256 × (t + 1) bytes. The unitary has 65 bytes: the exponent k, at most 29, and 16
 /// Gaussian integers row by row, the real part first, 16 bits each, low byte first; the first qubit is the
 /// left tensor factor. ω to the power that is answered, times the plain matrices H, S, CZ and CS of the
 /// letters, is the unitary exactly. The letters, t and L are those of [`operator_to_gates`] for the
@@ -221,7 +258,8 @@ pub fn unitary_to_gates(unitary: &[u8], out: &mut [u8]) -> Result<UnitaryLetters
     unitary_letters(run(dimfrets_unitary_to_gates, unitary, out))
 }
 
-/// Multiplies a gate list, writes the operator file, 73 bytes, and answers the operator's count.
+/// Multiplies a gate list, writes the operator file with the least exponent, and answers the operator's
+/// count. The file has [`operator_bytes`] of the count: 73, or 145 where the count is above 28.
 ///
 /// Refuses with [`Refusal::TooManyLetters`]; then with [`Refusal::UnknownLetter`] or
 /// [`Refusal::BeginningTooDeep`] at the leftmost place; then with [`Refusal::BufferTooShort`].
@@ -229,7 +267,8 @@ pub fn gates_to_operator(list: &[u8], out: &mut [u8]) -> Result<u8, Refusal> {
     count(run(dimfrets_gates_to_operator, list, out))
 }
 
-/// Multiplies a sheet, its sign included, writes the operator file, 73 bytes, and answers the count.
+/// Multiplies a sheet, its sign included, writes the operator file with the least exponent, and answers the
+/// count. The file has [`operator_bytes`] of the count: 73, or 145 where the count is above 28.
 ///
 /// Refuses with [`Refusal::SheetLength`], [`Refusal::SheetCount`], [`Refusal::SheetByte`],
 /// [`Refusal::NoClifford`], [`Refusal::SheetSign`], [`Refusal::OtherSheet`] or
@@ -261,7 +300,7 @@ pub fn bundle_sheet(bundle: &[u8], n: u64) -> Result<&[u8], Refusal> {
 }
 
 /// Writes the bundle of sheets that lie end to end, and answers its number of bytes: those of the
-/// sheets, and two for each sheet and two more. A sheet's first byte is from 64 to 92; no other byte
+/// sheets, and two for each sheet and two more. A sheet's first byte is from 64 to 124; no other byte
 /// of it is looked at.
 ///
 /// Refuses with [`Refusal::BundleTrailer`] where 513 sheets or more lie end to end from the front, then
@@ -642,7 +681,7 @@ mod tests {
 
     #[test]
     fn a_sheet_has_a_sign() {
-        let mut file = [0; OPERATOR_BYTES];
+        let mut file = [0; SHORT_OPERATOR_BYTES];
         let sheet = [64, 1, 2, 3, 4, 5, 6, 1];
         assert_eq!(sheet_to_operator(&sheet, &mut file), Ok(0));
         assert_eq!(file[..3], [0, 255, 255]);
@@ -669,7 +708,7 @@ mod tests {
     fn a_gate_list_has_a_sign() {
         let identity = [64, 1, 2, 3, 4, 5, 6];
         for sign in [0, 1] {
-            let mut file = [0; OPERATOR_BYTES];
+            let mut file = [0; SHORT_OPERATOR_BYTES];
             let sheet = [&identity[..], &[sign]].concat();
             assert_eq!(sheet_to_operator(&sheet, &mut file), Ok(0));
             let mut list = [9; 256];
@@ -684,6 +723,80 @@ mod tests {
             let refused = operator_to_gates(&file, &mut list[..255]);
             assert_eq!(refused, Err(Refusal::BufferTooShort));
         }
+    }
+
+    /// A file of a power of two at every place of the diagonal, with entries of so many bytes.
+    fn operator(entry_bytes: usize, exponent: u8, power: u32) -> Vec<u8> {
+        let mut file = vec![exponent];
+        for place in 0..36 {
+            let entry = if place % 7 == 0 { 1i64 << power } else { 0 };
+            file.extend_from_slice(&entry.to_le_bytes()[..entry_bytes]);
+        }
+        file
+    }
+
+    #[test]
+    fn an_operator_has_a_short_file_and_a_long_one() {
+        let identity = [64, 1, 2, 3, 4, 5, 6, 0, 9];
+        for (entry_bytes, len, largest) in [(2, 73, 28), (4, 145, 60)] {
+            for exponent in (0..=largest).step_by(2) {
+                let file = operator(entry_bytes, exponent, u32::from(exponent) / 2);
+                assert_eq!(file.len(), len);
+                let mut sheet = [9; 9];
+                let none = Cuts { count: 0, loose: 0 };
+                assert_eq!(operator_to_sheet(&file, &mut sheet), Ok(none));
+                assert_eq!(sheet, identity);
+            }
+            for exponent in largest + 1..=255 {
+                let file = operator(entry_bytes, exponent, 0);
+                let refused = operator_to_sheet(&file, &mut []);
+                assert_eq!(refused, Err(Refusal::ExponentTooLarge));
+            }
+        }
+        for len in (0..300).filter(|len| ![73, 145].contains(len)) {
+            let file = vec![0; len];
+            let refused = operator_to_gates(&file, &mut []);
+            assert_eq!(refused, Err(Refusal::FileLength));
+        }
+        let refused = operator_to_sheet(&operator(4, 58, 30), &mut []);
+        assert_eq!(refused, Err(Refusal::EntryTooLarge));
+        let refused = operator_to_sheet(&operator(4, 60, 29), &mut []);
+        assert_eq!(refused, Err(Refusal::NotOrthogonal));
+    }
+
+    #[test]
+    fn a_file_is_as_long_as_its_count_says() {
+        for count in 0..=MAX_COUNT {
+            let list = b"ChH".repeat(count.into());
+            let mut buffer = [9; LONG_OPERATOR_BYTES];
+            let len = operator_bytes(count);
+            let refused = gates_to_operator(&list, &mut buffer[..len - 1]);
+            assert_eq!(refused, Err(Refusal::BufferTooShort));
+            assert_eq!(buffer, [9; LONG_OPERATOR_BYTES]);
+            assert_eq!(gates_to_operator(&list, &mut buffer), Ok(count));
+            assert!(buffer[len..].iter().all(|&byte| byte == 9));
+            let file = &buffer[..len];
+            assert_eq!(file[0], count);
+
+            let mut sheet = [9; MAX_SHEET];
+            let cuts = operator_to_sheet(file, &mut sheet).expect("an accepted operator");
+            assert_eq!(cuts.count, count);
+            let sheet = &sheet[..8 + usize::from(count)];
+            let mut back = [9; LONG_OPERATOR_BYTES];
+            let refused = sheet_to_operator(sheet, &mut back[..len - 1]);
+            assert_eq!(refused, Err(Refusal::BufferTooShort));
+            assert_eq!(sheet_to_operator(sheet, &mut back), Ok(count));
+            assert_eq!(back, buffer);
+        }
+        let deeper = b"ChH".repeat(usize::from(MAX_COUNT) + 1);
+        let refused = gates_to_operator(&deeper, &mut []);
+        assert_eq!(refused, Err(Refusal::BeginningTooDeep));
+    }
+
+    #[test]
+    fn states_are_ordered_up_to_the_largest_count() {
+        assert_eq!(states_to_order(60, 1000), Ok(120));
+        assert_eq!(states_to_order(61, 0), Err(Refusal::OrderOutOfRange));
     }
 
     /// The bytes of a number at every place of the diagonal.
@@ -705,8 +818,8 @@ mod tests {
             (0, 0, 1),
             (1, -1, 1),
             (0, -1, 0),
-            (13, -64, -64),
-            (12, 0, -64),
+            (29, -16_384, -16_384),
+            (28, 0, -16_384),
             (1, 1, -1),
         ];
         for (omega, (exponent, re, im)) in (0..).zip(powers) {
@@ -731,13 +844,16 @@ mod tests {
         let refusals = [
             (identity[..64].to_vec(), Refusal::UnitaryShape),
             ([&identity[..], &[0]].concat(), Refusal::UnitaryShape),
-            (diagonal(14, 128, 0).to_vec(), Refusal::UnitaryShape),
+            (diagonal(30, 32_767, 0).to_vec(), Refusal::UnitaryShape),
             (diagonal(255, 0, 0).to_vec(), Refusal::UnitaryShape),
             (diagonal(0, 1, 1).to_vec(), Refusal::UnitaryEntry),
-            (diagonal(13, 64, -65).to_vec(), Refusal::UnitaryEntry),
-            (diagonal(12, i16::MIN, 0).to_vec(), Refusal::UnitaryEntry),
+            (
+                diagonal(29, 16_384, -16_385).to_vec(),
+                Refusal::UnitaryEntry,
+            ),
+            (diagonal(28, i16::MIN, 0).to_vec(), Refusal::UnitaryEntry),
             (diagonal(1, 1, 0).to_vec(), Refusal::NotUnitary),
-            (diagonal(12, 0, 63).to_vec(), Refusal::NotUnitary),
+            (diagonal(28, 0, 16_383).to_vec(), Refusal::NotUnitary),
         ];
         let mut out = [9; GATES_BUFFER];
         for (unitary, refusal) in refusals {
@@ -749,14 +865,14 @@ mod tests {
 
     #[test]
     fn a_sheet_says_its_count() {
-        let mut file = [9; OPERATOR_BYTES];
+        let mut file = [9; LONG_OPERATOR_BYTES];
         for first in (0..=255).filter(|&first| first != 64) {
             let sheet = [first, 1, 2, 3, 4, 5, 6, 0];
             assert_eq!(
                 sheet_to_operator(&sheet, &mut file),
                 Err(Refusal::SheetCount)
             );
-            assert_eq!(file, [9; OPERATOR_BYTES]);
+            assert_eq!(file, [9; LONG_OPERATOR_BYTES]);
         }
     }
 
@@ -793,7 +909,7 @@ mod tests {
         let refusals = [
             (sheet.repeat(MAX_SHEETS + 1), Refusal::BundleTrailer),
             (sheet[..7].to_vec(), Refusal::BundleSheets),
-            ([&[93], &[1; 36][..]].concat(), Refusal::BundleSheets),
+            ([&[125], &[1; 68][..]].concat(), Refusal::BundleSheets),
         ];
         for (sheets, refusal) in refusals {
             assert_eq!(sheets_to_bundle(&sheets, &mut out), Err(refusal));
@@ -806,11 +922,14 @@ mod tests {
 
     #[test]
     fn the_longest_bundle_fills_its_buffer() {
-        let sheet = [&[92], &[1; MAX_SHEET - 1][..]].concat();
+        let sheet = [&[124], &[1; MAX_SHEET - 1][..]].concat();
         let mut out = vec![9; BUNDLE_BUFFER];
         let written = sheets_to_bundle(&sheet.repeat(MAX_SHEETS), &mut out);
         assert_eq!(written, Ok(BUNDLE_BUFFER));
-        assert_eq!(bundle_sheet(&out, 511), Ok(&out[511 * 36..512 * 36]));
+        assert_eq!(
+            bundle_sheet(&out, 511),
+            Ok(&out[511 * MAX_SHEET..512 * MAX_SHEET])
+        );
         assert_eq!(bundle_sheet(&out, 512), Err(Refusal::NoSheet));
     }
 
@@ -887,7 +1006,7 @@ mod tests {
         );
         assert_eq!(sheet_to_operator(&[], &mut []), Err(Refusal::SheetLength));
         assert_eq!(unitary_to_gates(&[], &mut []), Err(Refusal::UnitaryShape));
-        let mut out = [0; OPERATOR_BYTES];
+        let mut out = [0; SHORT_OPERATOR_BYTES];
         assert_eq!(gates_to_operator(&[], &mut out), Ok(0));
         assert_eq!(bundle_sheet(&[], 0), Err(Refusal::BundleTrailer));
         assert_eq!(sheets_to_bundle(&[], &mut []), Err(Refusal::BufferTooShort));

@@ -72,27 +72,29 @@ impl Refusal {
 
     fn words(self) -> &'static str {
         match self {
-            Refusal::FileLength => "the operator file is not 73 bytes long",
-            Refusal::ExponentTooLarge => "the exponent of the operator file is above 28",
+            Refusal::FileLength => "the operator file is neither 73 nor 145 bytes long",
+            Refusal::ExponentTooLarge => {
+                "the exponent of the operator file is above 28 in 73 bytes, or above 60 in 145"
+            },
             Refusal::EntryTooLarge => "the square of an entry exceeds 2 to the power k",
             Refusal::NotOrthogonal => "the operator is not orthogonal",
             Refusal::NotProper => "the operator is orthogonal, but not proper",
             Refusal::BufferTooShort => "the output buffer is too short",
             Refusal::TooManyLetters => {
-                "the gate list has more than 8,192 letters, or the text more than 8,192 statements"
+                "the gate list has more than 16,384 letters, or the text more than 16,384 statements"
             }
             Refusal::UnknownLetter => "a byte of the gate list is no letter of the table",
             Refusal::BeginningTooDeep => {
-                "the product of a beginning of the gate list has a least exponent above 28"
+                "the product of a beginning of the gate list has a least exponent above 60"
             }
-            Refusal::SheetLength => "the sheet has fewer than 8 or more than 36 bytes",
+            Refusal::SheetLength => "the sheet has fewer than 8 or more than 68 bytes",
             Refusal::SheetByte => "a byte of the sheet is no generator or no column",
             Refusal::NoClifford => "the six columns of the sheet are no Clifford",
             Refusal::OtherSheet => "cutting the sheet's operator gives another sheet",
-            Refusal::OrderOutOfRange => "t is above 28 or the spoilage above 1000 thousandths",
+            Refusal::OrderOutOfRange => "t is above 60 or the spoilage above 1000 thousandths",
             Refusal::SheetSign => "the last byte of the sheet is above 1, or column 1 is negative",
             Refusal::SheetCount => "the first byte of the sheet is not its length plus 56",
-            Refusal::UnitaryShape => "the unitary is not 65 bytes long, or its exponent is above 13",
+            Refusal::UnitaryShape => "the unitary is not 65 bytes long, or its exponent is above 29",
             Refusal::UnitaryEntry => {
                 "the squared size of an entry of the unitary exceeds 2 to the power k"
             }

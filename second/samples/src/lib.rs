@@ -15,10 +15,11 @@ pub use text::{Line, Text, FIRST_LINES, STATEMENTS};
 pub use unitary::{inflated_unitary, unitary, unitary_bytes, unitary_of_form, MAX_UNITARY_COUNT};
 pub use walk::{Walk, LETTERS};
 
+use plain::file::{Kind, MAX_EXPONENT};
 use plain::gate;
 use plain::generator::GENERATORS;
-use plain::matrix::{scale, SIZE};
-use plain::operator::{Operator, MAX_EXPONENT, OPERATOR_BYTES};
+use plain::matrix::{odd_bits, scale, SIZE};
+use plain::operator::Operator;
 use plain::sheet::Sheet;
 
 /// How many sheets of each count a store has.
@@ -82,22 +83,32 @@ pub fn operator(random: &mut Random, count: u8) -> Operator {
     operator.times(&clifford(random))
 }
 
-/// An operator of the given count whose L, the number of cuts that group as 2 and 4, is drawn first
-/// from all below the count. The generators go to the left, where cutting begins, and each is to
-/// raise L or to leave it; where none of them does as drawn, L comes out otherwise.
-pub fn operator_by_loose(random: &mut Random, count: u8) -> Operator {
-    let wanted = random.below(usize::from(count).max(1)) as u8;
+/// An operator of the given count whose L, the number of cuts that group as 2 and 4, is to be `wanted`, which
+/// is below the count, or 0 where that is. The generators go to the left, where cutting begins, and each is
+/// to raise L or to leave it; where none of them does as drawn, L comes out otherwise.
+pub fn operator_by_loose(random: &mut Random, count: u8, wanted: u8) -> Operator {
     let mut operator = clifford(random);
+    let mut so_far = 0;
     while operator.exponent < count {
-        let so_far = loose(&operator);
         let missing = usize::from(wanted.saturating_sub(so_far));
         let left = usize::from(count - operator.exponent);
         let next = so_far + u8::from(random.below(left) < missing);
         let longer = raised(random, &operator);
-        let as_drawn = longer.iter().find(|longer| loose(longer) == next);
+        let as_drawn = longer.iter().find(|longer| loose(longer, so_far) == next);
         operator = *as_drawn.unwrap_or(&longer[0]);
+        so_far = loose(&operator, so_far);
     }
     operator
+}
+
+/// The same, drawn again until L is the wanted one.
+pub fn operator_of_loose(random: &mut Random, count: u8, wanted: u8) -> Operator {
+    loop {
+        let operator = operator_by_loose(random, count, wanted);
+        if Sheet::cut_with_loose(operator).1 == wanted {
+            return operator;
+        }
+    }
 }
 
 /// The products with a generator on the left that raises the exponent, in a random order.
@@ -111,14 +122,20 @@ fn raised(random: &mut Random, operator: &Operator) -> Vec<Operator> {
     raised
 }
 
-/// The number of cuts of an operator that group as 2 and 4.
-fn loose(operator: &Operator) -> u8 {
-    Sheet::cut_with_loose(*operator).1
+/// The number of cuts that group as 2 and 4, of a generator times an operator for which it is `before`. A
+/// first cut that groups as 2, 2, 2, where every row has an odd entry, takes that generator.
+fn loose(longer: &Operator, before: u8) -> u8 {
+    let mut odd = longer.matrix.iter().map(odd_bits);
+    if odd.all(|bits| bits != 0) {
+        return before;
+    }
+    Sheet::cut_with_loose(*longer).1
 }
 
-/// The same operator with an exponent from its own up to the largest.
-pub fn inflated(random: &mut Random, operator: &Operator) -> Operator {
-    let room = usize::from((MAX_EXPONENT - operator.exponent) / 2);
+/// The same operator with an exponent from its own up to the largest of a kind of file, which is at least
+/// its own.
+pub fn inflated(random: &mut Random, operator: &Operator, kind: Kind) -> Operator {
+    let room = usize::from((kind.max_exponent() - operator.exponent) / 2);
     let doublings = random.below(room + 1);
     Operator {
         matrix: scale(&operator.matrix, 1 << doublings),
@@ -126,11 +143,14 @@ pub fn inflated(random: &mut Random, operator: &Operator) -> Operator {
     }
 }
 
-/// The file of an operator, at the exponent it has.
+/// The file of an operator, at the exponent it has: a short one where that suffices.
 pub fn file(operator: &Operator) -> Vec<u8> {
-    let mut file = vec![0; OPERATOR_BYTES];
-    operator.write(&mut file);
-    file
+    Kind::written(operator.exponent).file(operator)
+}
+
+/// The long file of an operator, at the exponent it has.
+pub fn long_file(operator: &Operator) -> Vec<u8> {
+    Kind::Long.file(operator)
 }
 
 /// The bytes of the sheet that cutting an operator of the given count gives.
@@ -165,10 +185,39 @@ mod tests {
         for count in 0..=MAX_EXPONENT {
             let operator = operator(&mut random, count);
             assert_eq!(operator.exponent, count);
-            let inflated = inflated(&mut random, &operator);
-            assert_eq!(Operator::read(&file(&inflated)), Ok(operator));
+            assert_eq!(Operator::read(&file(&operator)), Ok(operator));
+            assert_eq!(Operator::read(&long_file(&operator)), Ok(operator));
+            let inflated = inflated(&mut random, &operator, Kind::Long);
+            assert_eq!(Operator::read(&long_file(&inflated)), Ok(operator));
             let sheet = sheet(&mut random, count);
             assert_eq!(sheet.len(), usize::from(count) + MIN_SHEET);
+        }
+    }
+
+    #[test]
+    fn every_exponent_comes_up_that_a_kind_allows() {
+        let mut random = Random::new(14);
+        for kind in Kind::ALL {
+            let mut met = vec![false; usize::from(kind.max_exponent()) + 1];
+            for _ in 0..20 * met.len() {
+                let count = random.below(2) as u8;
+                let operator = operator(&mut random, count);
+                let inflated = inflated(&mut random, &operator, kind);
+                assert_eq!(Operator::read(&kind.file(&inflated)), Ok(operator));
+                met[usize::from(inflated.exponent)] = true;
+            }
+            assert!(met.iter().all(|&met| met), "{kind:?}: {met:?}");
+        }
+    }
+
+    #[test]
+    fn a_file_is_short_where_that_suffices() {
+        let mut random = Random::new(15);
+        for count in 0..=MAX_EXPONENT {
+            let operator = operator(&mut random, count);
+            let len = if count <= 28 { 73 } else { 145 };
+            assert_eq!(file(&operator).len(), len);
+            assert_eq!(long_file(&operator).len(), 145);
         }
     }
 
@@ -189,16 +238,27 @@ mod tests {
     }
 
     #[test]
-    fn every_l_below_the_count_comes_up() {
+    fn operators_have_the_wanted_l() {
         let mut random = Random::new(3);
         for count in [1, 2, 3, 7, MAX_EXPONENT] {
-            let mut met = vec![false; usize::from(count)];
-            for _ in 0..40 * met.len() {
-                let operator = operator_by_loose(&mut random, count);
+            for wanted in [0, 1, count / 2, count - 1] {
+                let wanted = wanted.min(count - 1);
+                let operator = operator_of_loose(&mut random, count, wanted);
                 assert_eq!(operator.exponent, count);
-                met[usize::from(loose(&operator))] = true;
+                assert_eq!(Sheet::cut_with_loose(operator).1, wanted);
             }
-            assert!(met.iter().all(|&met| met), "count {count}: {met:?}");
+        }
+    }
+
+    #[test]
+    fn l_is_told_without_cutting_where_the_first_cut_is_forced() {
+        let mut random = Random::new(16);
+        for count in 0..20 {
+            let operator = operator(&mut random, count);
+            let before = Sheet::cut_with_loose(operator).1;
+            for longer in raised(&mut random, &operator) {
+                assert_eq!(loose(&longer, before), Sheet::cut_with_loose(longer).1);
+            }
         }
     }
 

@@ -10,8 +10,9 @@ use plain::words::write_gates;
 
 use crate::Random;
 
-/// The largest count that unitaries are drawn of. That a larger one could be accepted is not ruled out here;
-/// none was found.
+/// The largest count that unitaries are drawn of: [`unitary`] lets the exponent rise by one for every two
+/// letters C, and always found letters that keep to that. That a larger count could be accepted is not ruled
+/// out here; none was found.
 pub const MAX_UNITARY_COUNT: u8 = 2 * MAX_EXPONENT;
 
 /// A unitary and its six-by-six form, up to sign.
