@@ -4,9 +4,14 @@ use std::panic::{catch_unwind, AssertUnwindSafe};
 
 use dimfrets::Refusal;
 
-// Buffers of the wrapper's sizes hold the longest sheet, the longest bundle and the longest text, and
-// have no byte more.
+// Buffers of the wrapper's sizes hold either kind of operator file, the longest sheet, the longest bundle and
+// the longest text, and have no byte more.
+const _: () = assert!(dimfrets::SHORT_OPERATOR_BYTES == plain::file::SHORT_BYTES);
+const _: () = assert!(dimfrets::LONG_OPERATOR_BYTES == plain::file::LONG_BYTES);
+const _: () = assert!(dimfrets::MAX_SHORT_EXPONENT == plain::file::MAX_SHORT_EXPONENT);
+const _: () = assert!(dimfrets::MAX_COUNT == plain::file::MAX_EXPONENT);
 const _: () = assert!(dimfrets::MAX_SHEET == plain::sheet::MAX_SHEET);
+const _: () = assert!(dimfrets::MAX_LETTERS == plain::gate::MAX_LETTERS);
 const _: () = assert!(dimfrets::BUNDLE_BUFFER == plain::bundle::MAX_BUNDLE);
 const _: () = assert!(dimfrets::QASM_BUFFER == plain::qasm::MAX_TEXT);
 

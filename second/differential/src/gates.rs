@@ -1,9 +1,10 @@
 //! The promises of a gate list that was written for an operator or a unitary, by document 01 and document
 //! 02, P5 and P9.
 
+use plain::file::LONG_BYTES;
 use plain::gate::{image, LETTERS_PER_COUNT};
 use plain::omega::POWERS;
-use plain::operator::{Operator, OPERATOR_BYTES};
+use plain::operator::Operator;
 use plain::stretch::{crossings, cz_gates, product, stretches};
 use plain::unitary::Unitary;
 
@@ -12,12 +13,12 @@ use plain::unitary::Unitary;
 pub fn check(file: &[u8], list: &[u8], count: u64, sign: u8) -> Result<(), &'static str> {
     check_letters(list, count)?;
     demand(sign <= 1, "the sign of the gate list is above 1")?;
-    let mut back = [0; OPERATOR_BYTES];
+    let mut back = [0; LONG_BYTES];
     let answer = plain::gates_to_operator(list, &mut back);
     demand(answer == Ok(count as u8), "the gate list has another count")?;
     let operator = Operator::read(file).expect("an accepted operator");
     let said = samples::file(&operator.with_sign(sign));
-    let multiplies = back[..] == said;
+    let multiplies = back[..said.len()] == said;
     demand(
         multiplies,
         "the gate list multiplies to another operator than its sign says",

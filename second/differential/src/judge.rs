@@ -2,9 +2,10 @@
 //! difference.
 
 use plain::bundle::MAX_BUNDLE;
+use plain::file::{Kind, LONG_BYTES, MAX_EXPONENT};
 use plain::form;
 use plain::gate::LETTERS_PER_COUNT;
-use plain::operator::{Operator, OPERATOR_BYTES};
+use plain::operator::Operator;
 use plain::qasm::{self, MAX_STATEMENT};
 use plain::refusal::NO_SHEET;
 use plain::sheet::{MAX_SHEET, MIN_SHEET};
@@ -73,6 +74,10 @@ impl Judge {
         };
         case.check(lent_input.unchanged_past(0));
         self.tally.add(call, tested, case.last_byte());
+        if let Some((file, count)) = case.file() {
+            self.tally.add_file(call, file, count);
+        }
+        self.tally.add_buffer(call, tested, out_len);
         if let Some((list, beside)) = case.gates() {
             self.tally.add_gates(call, list, beside);
         }
@@ -90,7 +95,7 @@ impl Judge {
         let mut sheet = [0; MAX_SHEET];
         let mut count = || match plain::operator_to_sheet(input, &mut sheet) {
             Ok(cuts) => usize::from(cuts.count),
-            Err(_) => self.random.below(29),
+            Err(_) => self.random.below(usize::from(MAX_EXPONENT) + 1),
         };
         match call {
             Call::OperatorToSheet => count() + MIN_SHEET,
@@ -102,7 +107,13 @@ impl Judge {
                 };
                 LETTERS_PER_COUNT * (count + 1)
             }
-            Call::GatesToOperator | Call::SheetToOperator => OPERATOR_BYTES,
+            Call::GatesToOperator | Call::SheetToOperator => {
+                let kind = match call.plain(input, &mut [0; LONG_BYTES]) {
+                    Answer::Count { count, .. } => Kind::written(count as u8),
+                    _ => *self.random.pick(&Kind::ALL),
+                };
+                kind.bytes()
+            }
             Call::StatesToOrder | Call::BundleSheet => 0,
             Call::SheetsToBundle => {
                 let written = plain::sheets_to_bundle(input, &mut [0; MAX_BUNDLE]);
@@ -210,7 +221,9 @@ impl Case<'_> {
             (Call::OperatorToSheet, Answer::Count { count, .. }) => count as usize + MIN_SHEET,
             (Call::OperatorToGates, Answer::Count { letters, .. }) => letters,
             (Call::UnitaryToGates, Answer::Unitary { letters, .. }) => letters,
-            (Call::GatesToOperator | Call::SheetToOperator, Answer::Count { .. }) => OPERATOR_BYTES,
+            (Call::GatesToOperator | Call::SheetToOperator, Answer::Count { count, .. }) => {
+                Kind::written(count as u8).bytes()
+            }
             (_, Answer::Written(bytes)) => bytes,
             _ => 0,
         }
@@ -230,6 +243,18 @@ impl Case<'_> {
             _ => return None,
         };
         sheet.last().copied()
+    }
+
+    /// The operator file that was written or read, and the count of its operator, if one was.
+    fn file(&self) -> Option<(&[u8], u64)> {
+        let Answer::Count { count, .. } = self.tested.0 else {
+            return None;
+        };
+        match self.call {
+            Call::OperatorToSheet | Call::OperatorToGates => Some((self.input, count)),
+            Call::GatesToOperator | Call::SheetToOperator => Some((self.output(), count)),
+            _ => None,
+        }
     }
 
     /// The gate list that an operator or a unitary was cut into, and its sign or power of ω, if one was.

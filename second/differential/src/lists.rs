@@ -1,15 +1,15 @@
 //! Gate lists for the two calls that read them: of every count, at and around the limits of length and
 //! depth, with unknown bytes before, at and after the place where a beginning grows too deep.
 
+use plain::file::MAX_EXPONENT;
 use plain::gate::{image, CLIFFORD_LETTERS, MAX_LETTERS};
-use plain::operator::MAX_EXPONENT;
 use samples::{Random, Walk, LETTERS};
 
 use crate::call::Call;
 use crate::judge::Judge;
 
-const SHORT_LISTS: usize = 50_000;
-const LONG_LISTS: usize = 1_000;
+const SHORT_LISTS: usize = 40_000;
+const LONG_LISTS: usize = 500;
 const OVERLONG_LISTS: usize = 2_500;
 
 /// Of so many long lists one is written as text.

@@ -9,6 +9,7 @@ mod cliffords;
 mod damages;
 mod gates;
 mod judge;
+mod kinds;
 mod lent;
 mod lists;
 mod negatives;
@@ -29,6 +30,7 @@ fn main() -> ExitCode {
     trials::run(&mut judge);
     cliffords::run(&mut judge);
     negatives::run(&mut judge);
+    kinds::run(&mut judge);
     operators::run(&mut judge);
     unitaries::run(&mut judge);
     lists::run(&mut judge);

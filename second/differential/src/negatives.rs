@@ -1,7 +1,8 @@
 //! An operator and its negative into gates: the same letters, and opposite signs.
 
+use plain::file::MAX_EXPONENT;
 use plain::gate::LETTERS_PER_COUNT;
-use plain::operator::{Operator, MAX_EXPONENT};
+use plain::operator::Operator;
 use samples::Random;
 
 use crate::call::{Answer, Call};
@@ -9,7 +10,7 @@ use crate::judge::Judge;
 use crate::trials::same;
 
 /// How many random operators there are of each count.
-const OPERATORS: usize = 40;
+const OPERATORS: usize = 20;
 
 /// Runs the call that cuts into gates on operators of every count and on their negatives.
 pub fn run(judge: &mut Judge) {

@@ -1,12 +1,14 @@
 //! Orders of states: every t and p up to just above their limits, and numbers of all sizes.
 
+use plain::file::MAX_EXPONENT;
+use plain::MAX_SPOILAGE;
 use samples::Random;
 
 use crate::call::{order, Call};
 use crate::judge::Judge;
 
-const MAX_T: u64 = 28;
-const MAX_P: u64 = 1000;
+const MAX_T: u64 = MAX_EXPONENT as u64;
+const MAX_P: u64 = MAX_SPOILAGE;
 const RANDOM_ORDERS: usize = 20_000;
 
 /// Numbers whose low parts look allowed.
@@ -15,9 +17,9 @@ const FAR: [u64; 8] = [
     1 << 16,
     1 << 31,
     1 << 32,
-    (1 << 32) + 28,
+    (1 << 32) + MAX_T,
     1 << 63,
-    u64::MAX - 27,
+    u64::MAX - MAX_T,
     u64::MAX,
 ];
 

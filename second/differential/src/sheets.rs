@@ -4,10 +4,10 @@
 // Damages have one type, whether or not they change the length.
 #![allow(clippy::ptr_arg)]
 
+use plain::file::MAX_EXPONENT;
 use plain::generator::GENERATOR_COUNT;
 use plain::matrix::SIZE;
-use plain::operator::MAX_EXPONENT;
-use plain::sheet::{ABOVE_LENGTH, MINUS, MIN_SHEET};
+use plain::sheet::{ABOVE_LENGTH, MAX_SHEET, MINUS, MIN_SHEET};
 use samples::Random;
 
 use crate::call::Call;
@@ -16,12 +16,12 @@ use crate::judge::Judge;
 
 const INPUTS: usize = 60_000;
 const PAIRS_PER_LENGTH: usize = 60;
-const LENGTHS: std::ops::RangeInclusive<usize> = 0..=42;
+const LENGTHS: std::ops::RangeInclusive<usize> = 0..=MAX_SHEET + 6;
 
 const BAD_GENERATORS: [u8; 8] = [0, 16, 17, 127, 128, 129, 143, 255];
 const BAD_COLUMNS: [u8; 8] = [0, 7, 8, 127, 128, 135, 136, 255];
 const BAD_LAST_BYTES: [u8; 8] = [2, 3, 4, 127, 128, 129, 254, 255];
-const OTHER_FIRST_BYTES: [usize; 8] = [0, 1, 15, 63, 64, 92, 93, 255];
+const OTHER_FIRST_BYTES: [usize; 10] = [0, 1, 15, 63, 64, 92, 93, 124, 125, 255];
 
 const DAMAGES: [Damage; 33] = [
     bad_generator,

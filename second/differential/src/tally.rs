@@ -1,8 +1,9 @@
-//! How often each call ran, each refusal of each call came, and each count, or figure of states, each
-//! L, each sign or power of ω of a gate list, each number of Z in a stretch of one, each last byte of a
+//! How often each call ran, each refusal of each call came, and each count, or figure of states, each kind and
+//! exponent of operator file, each L, each sign or power of ω of a gate list, each number of Z in a stretch of one, each last byte of a
 //! sheet, each number of sheets in a bundle, each length and position of a part of one, each statement of a
 //! text, and each number of few or of most statements was seen.
 
+mod files;
 mod gates;
 mod texts;
 
@@ -10,20 +11,22 @@ use std::fmt::Display;
 
 use dimfrets::Refusal;
 use plain::bundle::{MAX_PART, MAX_SHEETS, NUMBER_BYTES};
+use plain::file::MAX_EXPONENT;
 use plain::sheet::MIN_SHEET;
 use samples::{LETTERS, MAX_UNITARY_COUNT, STATEMENTS};
 
 use crate::call::{Answer, Call, CALLS};
+use crate::unitaries::UNITARY_LOOSE;
 
+use files::{Files, Use};
 use gates::{Beside, Gates, POWER, SIGN};
 use texts::Texts;
 
 const REFUSALS: usize = 256;
-const COUNTS: usize = 29;
+const COUNTS: usize = MAX_EXPONENT as usize + 1;
 const UNITARY_COUNTS: usize = MAX_UNITARY_COUNT as usize + 1;
-const FIGURES: usize = 57;
-const LOOSE: usize = 28;
-const UNITARY_LOOSE: usize = 18;
+const FIGURES: usize = 2 * MAX_EXPONENT as usize + 1;
+const LOOSE: usize = MAX_EXPONENT as usize;
 const LAST_BYTES: usize = 2;
 const NUMBERS_OF_SHEETS: usize = MAX_SHEETS + 1;
 const PART_LENGTHS: usize = MAX_PART + 1;
@@ -46,6 +49,14 @@ const CUTTING_CALLS: [(Call, usize); 3] = [
     (Call::OperatorToSheet, LOOSE),
     (Call::OperatorToGates, LOOSE),
     (Call::UnitaryToGates, UNITARY_LOOSE),
+];
+
+/// The calls that read or write operator files.
+const FILE_CALLS: [(Call, Use); 4] = [
+    (Call::OperatorToSheet, Use::Reads),
+    (Call::OperatorToGates, Use::Reads),
+    (Call::GatesToOperator, Use::Writes),
+    (Call::SheetToOperator, Use::Writes),
 ];
 
 /// The calls that write gate lists, and what stands beside a list.
@@ -72,6 +83,7 @@ pub struct Tally {
     inputs: [u64; CALLS.len()],
     refusals: [[u64; REFUSALS]; CALLS.len()],
     counts: [Vec<u64>; CALLS.len()],
+    files: [Files; CALLS.len()],
     loose: [[u64; LOOSE]; CALLS.len()],
     gates: [Gates; CALLS.len()],
     last_bytes: [[u64; LAST_BYTES]; CALLS.len()],
@@ -87,6 +99,7 @@ impl Tally {
             inputs: [0; CALLS.len()],
             refusals: [[0; REFUSALS]; CALLS.len()],
             counts: CALLS.map(|call| vec![0; counts(call)]),
+            files: CALLS.map(|_| Files::new()),
             loose: [[0; LOOSE]; CALLS.len()],
             gates: CALLS.map(|_| Gates::new()),
             last_bytes: [[0; LAST_BYTES]; CALLS.len()],
@@ -113,6 +126,16 @@ impl Tally {
         }
     }
 
+    /// Counts an operator file that was written or read, with the count of its operator.
+    pub fn add_file(&mut self, call: Call, file: &[u8], count: u64) {
+        self.files[call as usize].add(file, count);
+    }
+
+    /// Counts the room that a call was lent, where that matters.
+    pub fn add_buffer(&mut self, call: Call, answer: Answer, room: usize) {
+        self.files[call as usize].add_buffer(answer, room);
+    }
+
     /// Counts a gate list that was written, with its sign or power of ω.
     pub fn add_gates(&mut self, call: Call, list: &[u8], beside: u8) {
         self.gates[call as usize].add(list, beside);
@@ -137,7 +160,8 @@ impl Tally {
     }
 
     /// Prints a line for each call, one for all refusals and one for those of each call, one for the
-    /// counts of each call that answers them, one for the L of each call that cuts, two for each call that
+    /// counts of each call that answers them, two or three for the files of each call that reads or writes
+    /// them, one for the L of each call that cuts, two for each call that
     /// writes gate lists, one for the last bytes of each call with sheets, one for the numbers of sheets of
     /// each call with bundles, two for the parts, and three for each call with texts.
     pub fn print(&self) {
@@ -153,6 +177,9 @@ impl Tally {
         for call in COUNTING_CALLS {
             let times = numbered(&self.counts[call as usize]);
             println!("counts of {}:{times}", call.name());
+        }
+        for (call, used) in FILE_CALLS {
+            self.files[call as usize].print(call, used);
         }
         for (call, known) in CUTTING_CALLS {
             let times = numbered(&self.loose[call as usize][..known]);
@@ -201,6 +228,9 @@ impl Tally {
         }
         for call in COUNTING_CALLS {
             gaps.extend(missing("count", call, &self.counts[call as usize]));
+        }
+        for (call, used) in FILE_CALLS {
+            gaps.extend(self.files[call as usize].gaps(call, used));
         }
         for (call, known) in CUTTING_CALLS {
             gaps.extend(missing("L", call, &self.loose[call as usize][..known]));

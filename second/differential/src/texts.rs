@@ -25,7 +25,14 @@ const OVERLONG_TEXTS_PER_WRONG_LINE: usize = 3;
 const FEW: usize = 40;
 
 /// Numbers of statements around the most that a text may have.
-const EDGES: [usize; 6] = [8190, 8191, 8192, 8193, 8194, 8195];
+const EDGES: [usize; 6] = [
+    MAX_LETTERS - 2,
+    MAX_LETTERS - 1,
+    MAX_LETTERS,
+    MAX_LETTERS + 1,
+    MAX_LETTERS + 2,
+    MAX_LETTERS + 3,
+];
 
 /// Numbers whose low 16 bits look allowed.
 const FAR: [usize; 2] = [65_536, 65_537];

@@ -1,12 +1,13 @@
 //! The cases of document 01, "Trial cuts", with the first byte of document 02, P4, the last byte of P2
 //! and the L of P3, the example of `cut`, the orders of document 02, P1, small bundles of P7, small texts
-//! of P8 and the signs of P9, on both implementations.
+//! of P8, the signs of P9 and the limits of P10, on both implementations.
 
 use std::fmt::Debug;
 
+use plain::file::{Kind, LONG_BYTES};
 use plain::gate::LETTERS_PER_COUNT;
 use plain::matrix::{scale, Matrix, IDENTITY};
-use plain::operator::{Operator, OPERATOR_BYTES};
+use plain::operator::Operator;
 use plain::refusal::{BUNDLE_SHEETS, NO_STATEMENT};
 use plain::sheet::MIN_SHEET;
 use samples::Text;
@@ -54,12 +55,14 @@ const REFUSED_SHEETS: [(&[u8], u8); 19] = [
 ];
 
 /// t, p and the states to order.
-const ORDERS: [(u64, u64, u64); 7] = [
+const ORDERS: [(u64, u64, u64); 9] = [
     (10, 50, 10),
     (10, 150, 12),
     (28, 50, 29),
     (0, 1000, 0),
     (28, 1000, 56),
+    (29, 0, 29),
+    (60, 1000, 120),
     (1, 500, 1),
     (3, 500, 5),
 ];
@@ -121,41 +124,65 @@ pub fn run(judge: &mut Judge) {
 
 fn accepted_operators(judge: &mut Judge) {
     let identity = file(&IDENTITY, 0);
-    cuts(judge, &identity, &identity, IDENTITY_SHEET, 0);
-    cuts(
-        judge,
-        &file(&scale(&IDENTITY, 2), 2),
-        &identity,
-        IDENTITY_SHEET,
-        0,
-    );
-    cuts(
-        judge,
-        &file(&scale(&IDENTITY, 16384), 28),
-        &identity,
-        IDENTITY_SHEET,
-        0,
-    );
+    for doublings in [0, 1, 14, 15, 30] {
+        let matrix = scale(&IDENTITY, 1 << doublings);
+        both_cut(judge, &matrix, 2 * doublings, &identity, IDENTITY_SHEET, 0);
+    }
     let minus = file(&scale(&IDENTITY, -1), 0);
-    cuts(judge, &minus, &minus, MINUS_IDENTITY_SHEET, 0);
+    both_cut(
+        judge,
+        &scale(&IDENTITY, -1),
+        0,
+        &minus,
+        MINUS_IDENTITY_SHEET,
+        0,
+    );
     let example = file(&CUT_EXAMPLE, 2);
-    cuts(judge, &example, &example, CHC_SHEET, 1);
-    let doubled = file(&scale(&CUT_EXAMPLE, 2), 4);
-    cuts(judge, &doubled, &example, CHC_SHEET, 1);
+    for doublings in [0, 1, 13, 14, 29] {
+        let matrix = scale(&CUT_EXAMPLE, 1 << doublings);
+        both_cut(judge, &matrix, 2 + 2 * doublings, &example, CHC_SHEET, 1);
+    }
     let minus_example = file(&scale(&CUT_EXAMPLE, -1), 2);
-    cuts(judge, &minus_example, &minus_example, MINUS_CHC_SHEET, 1);
+    both_cut(
+        judge,
+        &scale(&CUT_EXAMPLE, -1),
+        2,
+        &minus_example,
+        MINUS_CHC_SHEET,
+        1,
+    );
 }
 
 fn refused_operators(judge: &mut Judge) {
-    refused_operator(judge, &file(&scale(&IDENTITY, 16384), 29), 2);
     let mut entry = scale(&IDENTITY, 2);
     entry[0][0] = 3;
-    refused_operator(judge, &file(&entry, 2), 3);
-    refused_operator(judge, &file(&scale(&IDENTITY, 0), 0), 4);
-    refused_operator(judge, &file(&IDENTITY, 1), 4);
     let mut improper = IDENTITY;
     improper[0][0] = -1;
-    refused_operator(judge, &file(&improper, 0), 5);
+    for kind in Kind::ALL {
+        let (half, largest) = (kind.max_exponent() / 2, kind.max_exponent());
+        let power = 1 << half;
+        let refused = [
+            (scale(&IDENTITY, power), largest + 1, 2),
+            (scale(&IDENTITY, power), 255, 2),
+            (entry, 2, 3),
+            (scale(&IDENTITY, power), largest - 1, 3),
+            (scale(&IDENTITY, power + 1), largest, 3),
+            (scale(&IDENTITY, kind.range().0), largest, 3),
+            (scale(&IDENTITY, kind.range().1), largest, 3),
+            (scale(&IDENTITY, 0), 0, 4),
+            (IDENTITY, 1, 4),
+            (scale(&IDENTITY, power - 1), largest, 4),
+            (improper, 0, 5),
+            (scale(&improper, power), largest, 5),
+        ];
+        for (matrix, exponent, number) in refused {
+            refused_operator(judge, &kind.file(&Operator { matrix, exponent }), number);
+        }
+        let file = kind.file(&Operator::IDENTITY);
+        refused_operator(judge, &file[1..], 1);
+        refused_operator(judge, &[&file[..], &[0]].concat(), 1);
+    }
+    refused_operator(judge, &[], 1);
 }
 
 fn gate_lists(judge: &mut Judge) {
@@ -242,7 +269,7 @@ fn signs(judge: &mut Judge) {
 
 /// The list multiplies to the operator of the sheet and of this L.
 fn list_cuts(judge: &mut Judge, list: &[u8], sheet: &[u8], loose: u8) {
-    let (_, file) = judge.run_with(Call::GatesToOperator, list, OPERATOR_BYTES);
+    let (_, file) = judge.run_with(Call::GatesToOperator, list, LONG_BYTES);
     expect(judge, Call::GatesToOperator, list, count_of(sheet), &file);
     cuts(judge, &file, &file, sheet, loose);
 }
@@ -263,6 +290,24 @@ fn cuts(judge: &mut Judge, file: &[u8], least: &[u8], sheet: &[u8], loose: u8) {
     same(Call::OperatorToGates, file, &listed.without_letters(), &cut);
     let said = with_sign(least, listed);
     expect(judge, Call::GatesToOperator, &list, count_of(sheet), &said);
+}
+
+/// The same for each kind of file that may have the exponent.
+fn both_cut(
+    judge: &mut Judge,
+    matrix: &Matrix,
+    exponent: u8,
+    least: &[u8],
+    sheet: &[u8],
+    loose: u8,
+) {
+    let matrix = *matrix;
+    for kind in Kind::ALL {
+        if exponent <= kind.max_exponent() {
+            let file = kind.file(&Operator { matrix, exponent });
+            cuts(judge, &file, least, sheet, loose);
+        }
+    }
 }
 
 fn refused_operator(judge: &mut Judge, file: &[u8], number: u8) {

@@ -16,6 +16,14 @@ use damages::{BYTE_CHANGES, LENGTH_CHANGES, UNITARY_CHANGES};
 
 const INPUTS: usize = 20_000;
 
+/// How many L unitaries are drawn of, from 0 up. With larger ones, few forms have a unitary whose exponent is
+/// small enough.
+pub const UNITARY_LOOSE: usize = 33;
+
+/// How many unitaries of each L are drawn once, to be used again, and how far their counts are above it.
+const STORED_PER_LOOSE: usize = 3;
+const COUNTS_ABOVE_LOOSE: usize = 12;
+
 /// Runs the call that reads unitaries.
 pub fn run(judge: &mut Judge) {
     cases::run(judge);
@@ -26,19 +34,40 @@ pub fn run(judge: &mut Judge) {
         let bytes = samples::unitary_bytes(&unitary);
         judge.run_with(Call::UnitaryToGates, &bytes, LETTERS_PER_COUNT);
     }
+    let store = by_loose(&mut random);
+    for unitary in &store {
+        judge.run(Call::UnitaryToGates, &samples::unitary_bytes(unitary));
+    }
     for _ in 0..INPUTS / 2 {
-        let accepted = samples::unitary_bytes(&accepted(&mut random));
+        let accepted = samples::unitary_bytes(&accepted(&mut random, &store));
         judge.run(Call::UnitaryToGates, &accepted);
-        judge.run(Call::UnitaryToGates, &damaged(&mut random));
+        judge.run(Call::UnitaryToGates, &damaged(&mut random, &store));
+    }
+}
+
+/// Unitaries of every L that they are drawn of.
+fn by_loose(random: &mut Random) -> Vec<Unitary> {
+    let each = (0..UNITARY_LOOSE).flat_map(|loose| [loose as u8; STORED_PER_LOOSE]);
+    each.map(|loose| of_loose(random, loose)).collect()
+}
+
+/// A unitary of a form with this L.
+fn of_loose(random: &mut Random, loose: u8) -> Unitary {
+    loop {
+        let count = loose + 1 + random.below(COUNTS_ABOVE_LOOSE) as u8;
+        let form = samples::operator_of_loose(random, count, loose);
+        if let Some(unitary) = samples::unitary_of_form(random, &form) {
+            return unitary;
+        }
     }
 }
 
 /// An accepted unitary, at its least or a larger exponent.
-fn accepted(random: &mut Random) -> Unitary {
+fn accepted(random: &mut Random, store: &[Unitary]) -> Unitary {
     let count = random.below(usize::from(MAX_UNITARY_COUNT) + 1) as u8;
     let unitary = match random.below(8) {
         0 => samples::unitary(random, count, count.div_ceil(2)),
-        1 | 2 => by_loose(random),
+        1 => *random.pick(store),
         _ => samples::unitary(random, count, MAX_EXPONENT),
     };
     if random.chance(2) {
@@ -47,21 +76,10 @@ fn accepted(random: &mut Random) -> Unitary {
     samples::inflated_unitary(random, &unitary)
 }
 
-/// A unitary of a form whose L is drawn first.
-fn by_loose(random: &mut Random) -> Unitary {
-    loop {
-        let count = random.below(usize::from(MAX_UNITARY_COUNT) + 1) as u8;
-        let form = samples::operator_by_loose(random, count);
-        if let Some(unitary) = samples::unitary_of_form(random, &form) {
-            return unitary;
-        }
-    }
-}
-
 /// The bytes of a unitary with one change or more.
-fn damaged(random: &mut Random) -> Vec<u8> {
+fn damaged(random: &mut Random, store: &[Unitary]) -> Vec<u8> {
     let [of_unitary, of_bytes, of_length] = mixture(random);
-    let mut unitary = accepted(random);
+    let mut unitary = accepted(random, store);
     for _ in 0..of_unitary {
         random.pick(&UNITARY_CHANGES)(random, &mut unitary);
     }

@@ -18,10 +18,10 @@ use super::any_part;
 const LOW_FIRST_BYTES: [u8; 6] = [0, 1, 55, 56, 57, 63];
 
 /// First bytes that no sheet has.
-const UNFIT_FIRST_BYTES: [u8; 6] = [0, 56, 63, 93, 94, 255];
+const UNFIT_FIRST_BYTES: [u8; 6] = [0, 56, 63, 125, 126, 255];
 
 /// Lengths that no sheet has.
-const UNFIT_LENGTHS: [usize; 6] = [1, 7, 37, 38, 64, 199];
+const UNFIT_LENGTHS: [usize; 6] = [1, 7, 69, 70, 128, 199];
 
 type PieceDamage = fn(&mut Random, &mut Bundle);
 type ListDamage = fn(&mut Random, &mut Vec<Vec<u8>>);

@@ -227,15 +227,15 @@ fn entry_of<'a>(random: &mut Random, unitary: &'a mut Unitary) -> &'a mut Number
     &mut unitary.matrix[random.below(SIZE)][random.below(SIZE)]
 }
 
-/// An exponent above 13, where the entries may be those of a unitary with that exponent.
+/// An exponent above the largest.
 fn large_exponent(random: &mut Random, bytes: &mut Vec<u8>) {
-    let above = [14, 14, 14, 15, 16, 28, 29, 32, 45, 64, 128, 255];
+    let above = [30, 30, 30, 31, 32, 45, 60, 61, 64, 128, 255];
     bytes[0] = *random.pick(&above);
 }
 
 fn random_bytes(random: &mut Random, bytes: &mut Vec<u8>) {
     random.fill(bytes);
-    bytes[0] %= 16;
+    bytes[0] %= 32;
 }
 
 fn random_length(random: &mut Random, bytes: &mut Vec<u8>) {
