@@ -10,8 +10,8 @@ use std::time::{Duration, Instant};
 
 use samples::Random;
 
-const COUNTS: [u8; 4] = [0, 7, 14, 28];
-const UNITARY_COUNTS: [u8; 4] = [0, 7, 14, samples::MAX_UNITARY_COUNT];
+const COUNTS: [u8; 6] = [0, 7, 14, 28, 45, dimfrets::MAX_COUNT];
+const UNITARY_COUNTS: [u8; 6] = [0, 7, 14, 28, 45, samples::MAX_UNITARY_COUNT];
 const INPUTS: usize = 64;
 const ROUNDS: usize = 15;
 const ROUND_TIME: Duration = Duration::from_millis(15);
@@ -138,8 +138,8 @@ fn print_letters() {
     });
 }
 
-/// The counts of a subject's inputs; no unitary that is accepted has the largest count of an operator.
-fn counts(subject: &Subject) -> [u8; 4] {
+/// The counts of a subject's inputs; unitaries are not drawn of the largest count of an operator.
+fn counts(subject: &Subject) -> [u8; 6] {
     match subject.name {
         UNITARY => UNITARY_COUNTS,
         _ => COUNTS,
@@ -197,6 +197,7 @@ fn median(mut times: [f64; ROUNDS]) -> f64 {
     times[ROUNDS / 2]
 }
 
+/// An operator file, a short one where that suffices.
 fn operator_file(random: &mut Random, count: u8) -> Vec<u8> {
     samples::file(&samples::operator(random, count))
 }
