@@ -1,11 +1,12 @@
-/* Cuts the operator file on standard input, as the program `cut` does: the count, the sheet and L, or the refusal. */
+/* Cuts the operator file on standard input, of either kind, as the program `cut` does: the count, the sheet and L, or the refusal. */
 #include <stdio.h>
 
 #include "dimfrets.h"
 
 int main(void)
 {
-    uint8_t file[DIMFRETS_OPERATOR_BYTES + 1];
+    /* Room for a byte more than a file has: what is longer is no file. */
+    uint8_t file[DIMFRETS_LONG_OPERATOR_BYTES + 1];
     uint8_t sheet[DIMFRETS_MAX_SHEET];
     size_t length = fread(file, 1, sizeof file, stdin);
     uint64_t answer = dimfrets_operator_to_sheet(file, length, sheet, sizeof sheet);

@@ -22,6 +22,15 @@
  *
  * The functions at the end of this file take a word apart.
  *
+ * An operator file is a byte k and 36 entries row by row, low byte first, two's
+ * complement. There are two kinds: a short file has 73 bytes, k from 0 to 28 and
+ * entries of 16 bits; a long one has 145 bytes, k from 0 to 60 and entries of 32 bits.
+ * It stands for the matrix of the entries divided by root two to the power k. Both
+ * kinds are read, and whatever the kind and k, one operator has one result. Written is
+ * the least k, in a short file where it is at most 28 and in a long one otherwise:
+ * dimfrets_operator_bytes tells how long. The length that a file is read with is its
+ * own and not that of the buffer that it lies in.
+ *
  * A call reads the in_len bytes at `in` and writes nowhere but in the out_len
  * bytes at `out`; a call without `out` writes nothing. With a refusal no byte of
  * `out` changes; on success the bytes past the output keep theirs. Pointers are
@@ -40,21 +49,23 @@ extern "C" {
 
 /* Sizes, in bytes. */
 enum dimfrets_size {
-    DIMFRETS_OPERATOR_BYTES = 73,   /* an operator file */
+    DIMFRETS_SHORT_OPERATOR_BYTES = 73, /* a short operator file */
+    DIMFRETS_LONG_OPERATOR_BYTES = 145, /* a long one; holds any operator file written */
     DIMFRETS_UNITARY_BYTES = 65,    /* a unitary */
     DIMFRETS_MIN_SHEET = 8,         /* the sheet of a Clifford; each generator adds one */
-    DIMFRETS_MAX_SHEET = 36,        /* the sheet of an operator of count 28 */
-    DIMFRETS_MAX_LETTERS = 8192,    /* the longest gate list that is read, also from a text */
-    DIMFRETS_GATES_BUFFER = 7424,   /* holds the gate list of any operator or unitary:
-                                       256 * (28 + 1) */
-    DIMFRETS_BUNDLE_BUFFER = 19458, /* holds any bundle written: 512 * (36 + 2) + 2 */
-    DIMFRETS_QASM_BUFFER = 172079   /* holds any text written: 47 + 21 * 8192 */
+    DIMFRETS_MAX_SHEET = 68,        /* the sheet of an operator of count 60 */
+    DIMFRETS_MAX_LETTERS = 16384,   /* the longest gate list that is read, also from a text */
+    DIMFRETS_GATES_BUFFER = 15616,  /* holds the gate list of any operator or unitary:
+                                       256 * (60 + 1) */
+    DIMFRETS_BUNDLE_BUFFER = 35842, /* holds any bundle written: 512 * (68 + 2) + 2 */
+    DIMFRETS_QASM_BUFFER = 344111   /* holds any text written: 47 + 21 * 16384 */
 };
 
-/* Limits of counts, unitaries, orders and bundles. */
+/* Limits of exponents, counts, orders and bundles. */
 enum dimfrets_limit {
-    DIMFRETS_MAX_COUNT = 28,        /* the largest exponent k of an operator, and count t */
-    DIMFRETS_MAX_UNITARY_EXPONENT = 13, /* the largest exponent k of a unitary */
+    DIMFRETS_MAX_SHORT_EXPONENT = 28, /* the largest exponent k of a short operator file */
+    DIMFRETS_MAX_COUNT = 60,        /* the largest exponent k of an operator, and count t */
+    DIMFRETS_MAX_UNITARY_EXPONENT = 29, /* the largest exponent k of a unitary */
     DIMFRETS_MAX_SPOILAGE = 1000,   /* the largest spoilage, in thousandths */
     DIMFRETS_MAX_SHEETS = 512       /* the most sheets of a bundle */
 };
@@ -62,22 +73,22 @@ enum dimfrets_limit {
 /* The refusals, by who causes them. */
 enum dimfrets_refusal {
     /* The maker of an operator file. */
-    DIMFRETS_FILE_LENGTH = 1,         /* length not 73 */
-    DIMFRETS_EXPONENT_TOO_LARGE = 2,  /* k above 28 */
+    DIMFRETS_FILE_LENGTH = 1,         /* length neither 73 nor 145 */
+    DIMFRETS_EXPONENT_TOO_LARGE = 2,  /* k above 28 in 73 bytes, above 60 in 145 */
     DIMFRETS_ENTRY_TOO_LARGE = 3,     /* an entry whose square exceeds 2 to the power k */
     DIMFRETS_NOT_ORTHOGONAL = 4,      /* not orthogonal */
     DIMFRETS_NOT_PROPER = 5,          /* orthogonal, not proper */
     /* The lender of an output buffer. */
     DIMFRETS_BUFFER_TOO_SHORT = 6,    /* shorter than 256 * (t + 1) for the gate list of an
-                                         operator or a unitary, than the sheet, than 73 bytes for
-                                         an operator, than the bundle, than the text, or than its
-                                         letters */
+                                         operator or a unitary, than the sheet, than the operator
+                                         file that is written (73 or 145 bytes), than the bundle,
+                                         than the text, or than its letters */
     /* The writer of a gate list. */
-    DIMFRETS_TOO_MANY_LETTERS = 7,    /* more than 8,192 letters, or statements of a text */
+    DIMFRETS_TOO_MANY_LETTERS = 7,    /* more than 16,384 letters, or statements of a text */
     DIMFRETS_UNKNOWN_LETTER = 8,      /* a byte that is no letter of the table */
-    DIMFRETS_BEGINNING_TOO_DEEP = 9,  /* a beginning whose product has a least exponent above 28 */
+    DIMFRETS_BEGINNING_TOO_DEEP = 9,  /* a beginning whose product has a least exponent above 60 */
     /* The maker of a sheet. */
-    DIMFRETS_SHEET_LENGTH = 10,       /* length below 8 or above 36 */
+    DIMFRETS_SHEET_LENGTH = 10,       /* length below 8 or above 68 */
     DIMFRETS_SHEET_COUNT = 16,        /* a first byte that is not the length plus 56 */
     DIMFRETS_SHEET_BYTE = 11,         /* a generator byte outside 1 to 15, or a column byte
                                          outside 1 to 6 and 129 to 134 */
@@ -85,9 +96,9 @@ enum dimfrets_refusal {
     DIMFRETS_SHEET_SIGN = 15,         /* a last byte above 1, or a negative column 1 */
     DIMFRETS_OTHER_SHEET = 13,        /* cutting its operator gives another sheet */
     /* Whoever orders states. */
-    DIMFRETS_ORDER_OUT_OF_RANGE = 14, /* t above 28 or p above 1000 */
+    DIMFRETS_ORDER_OUT_OF_RANGE = 14, /* t above 60 or p above 1000 */
     /* The maker of a unitary. */
-    DIMFRETS_UNITARY_SHAPE = 17,      /* length not 65, or k above 13 */
+    DIMFRETS_UNITARY_SHAPE = 17,      /* length not 65, or k above 29 */
     DIMFRETS_UNITARY_ENTRY = 18,      /* an entry whose squared size exceeds 2 to the power k */
     DIMFRETS_NOT_UNITARY = 19,        /* not unitary */
     /* The maker of a bundle. */
@@ -105,14 +116,14 @@ enum dimfrets_refusal {
 
 /*
  * Cuts an operator.
- * Reads an operator file at `in`. Writes its sheet at `out`: the byte 64 + t, t
- * generator bytes, six column bytes of a Clifford whose column 1 is positive, and a
- * last byte, 0 if the operator is their product and 1 if it is the negative of
- * that. Two operators agree up to sign exactly when their sheets agree before the
- * last byte. Sheets laid end to end can be told apart: each is as long as its first
- * byte less 56. Answers the count t and L, the number of cuts whose rows grouped as
- * 2 and 4. L is 0 for a Clifford and below t for every other operator; it is the
- * same for M and -M.
+ * Reads an operator file of either kind at `in`. Writes its sheet at `out`: the byte
+ * 64 + t, t generator bytes, six column bytes of a Clifford whose column 1 is
+ * positive, and a last byte, 0 if the operator is their product and 1 if it is the
+ * negative of that. Two operators agree up to sign exactly when their sheets agree
+ * before the last byte. Sheets laid end to end can be told apart: each is as long as
+ * its first byte less 56. Answers the count t and L, the number of cuts whose rows
+ * grouped as 2 and 4. L is 0 for a Clifford and below t for every other operator; it
+ * is the same for M and -M.
  * Refusals, the first that holds: 1, 2, 3, 4, 5, 6 (out_len below t + 8).
  */
 uint64_t dimfrets_operator_to_sheet(const uint8_t *in, size_t in_len,
@@ -120,15 +131,16 @@ uint64_t dimfrets_operator_to_sheet(const uint8_t *in, size_t in_len,
 
 /*
  * Cuts an operator into gates.
- * Reads an operator file at `in`. Writes a gate list at `out` that multiplies to the
- * operator if the sign is 0, and to its negative if it is 1: letters H h S s Z C,
- * exactly t of them C, at most 256 * (t + 1) in all. No list that multiplies to the
- * operator or to its negative has fewer C. In each stretch without C (before the first
- * C, between two, and after the last) there are as many Z as there are indices among 1
- * to 3 that the stretch sends to 4 to 6; no stretch with the same image up to sign has
- * fewer. Answers the count t, the number of letters, L as for the sheet, and the sign,
- * which follows from the letters. The way back is dimfrets_gates_to_operator: it writes
- * the operator or, with the sign 1, the operator with every entry negated.
+ * Reads an operator file of either kind at `in`. Writes a gate list at `out` that
+ * multiplies to the operator if the sign is 0, and to its negative if it is 1: letters
+ * H h S s Z C, exactly t of them C, at most 256 * (t + 1) in all. No list that
+ * multiplies to the operator or to its negative has fewer C. In each stretch without C
+ * (before the first C, between two, and after the last) there are as many Z as there are
+ * indices among 1 to 3 that the stretch sends to 4 to 6; no stretch with the same image
+ * up to sign has fewer. Answers the count t, the number of letters, L as for the sheet,
+ * and the sign, which follows from the letters. The way back is
+ * dimfrets_gates_to_operator: it writes the operator or, with the sign 1, the operator
+ * with every entry negated.
  * Refusals, the first that holds: 1, 2, 3, 4, 5, 6 (out_len below 256 * (t + 1),
  * however many letters there are).
  */
@@ -137,7 +149,7 @@ uint64_t dimfrets_operator_to_gates(const uint8_t *in, size_t in_len,
 
 /*
  * Cuts a four-by-four unitary into gates.
- * Reads a unitary at `in`: a byte k from 0 to 13, then 16 Gaussian integers row by row,
+ * Reads a unitary at `in`: a byte k from 0 to 29, then 16 Gaussian integers row by row,
  * each its real and then its imaginary part, 16 bits each, two's complement, low byte
  * first. It stands for their matrix divided by root two to the power k; the first qubit
  * is the left tensor factor. Writes a gate list at `out`: letters H h S s Z C, exactly t
@@ -150,7 +162,7 @@ uint64_t dimfrets_operator_to_gates(const uint8_t *in, size_t in_len,
  * dimfrets_operator_to_gates for the six-by-six form of the unitary, and for the negative
  * of that form, so the promise about Z holds too. Answers the count t, at most 2 * k + 2,
  * the number of letters, L, and the power of omega, which follows from the letters.
- * Refusals, the first that holds: 17 (in_len not 65, or k above 13), 18, 19, 6 (out_len
+ * Refusals, the first that holds: 17 (in_len not 65, or k above 29), 18, 19, 6 (out_len
  * below 256 * (t + 1), however many letters there are).
  */
 uint64_t dimfrets_unitary_to_gates(const uint8_t *in, size_t in_len,
@@ -160,9 +172,10 @@ uint64_t dimfrets_unitary_to_gates(const uint8_t *in, size_t in_len,
  * Multiplies a gate list.
  * Reads a gate list at `in`, its first letter the leftmost factor. Writes the
  * operator file of the product, with the least exponent, at `out`. Answers the
- * count of the operator, which can be lower than the number of letters C.
+ * count of the operator, which can be lower than the number of letters C; the file has
+ * dimfrets_operator_bytes of it.
  * Refusals: 7; then 8 or 9 at the leftmost place that earns one; then 6 (out_len
- * below 73).
+ * below 73, or below 145 where the count is above 28).
  */
 uint64_t dimfrets_gates_to_operator(const uint8_t *in, size_t in_len,
                                     uint8_t *out, size_t out_len);
@@ -171,8 +184,9 @@ uint64_t dimfrets_gates_to_operator(const uint8_t *in, size_t in_len,
  * Multiplies a sheet.
  * Reads a sheet at `in`. Writes the operator file of its product, the sign of the
  * last byte included, with the least exponent, at `out`. Answers the count,
- * in_len - 8.
- * Refusals, the first that holds: 10, 16, 11, 12, 15, 13, 6 (out_len below 73).
+ * in_len - 8; the file has dimfrets_operator_bytes of it.
+ * Refusals, the first that holds: 10, 16, 11, 12, 15, 13, 6 (out_len below 73, or below
+ * 145 where the count is above 28).
  */
 uint64_t dimfrets_sheet_to_operator(const uint8_t *in, size_t in_len,
                                     uint8_t *out, size_t out_len);
@@ -180,7 +194,7 @@ uint64_t dimfrets_sheet_to_operator(const uint8_t *in, size_t in_len,
 /*
  * The number of CS states to order for the count t and a spoilage of p
  * thousandths: t plus t * p / 1000, rounded to the nearest whole state, an exact
- * half to the even one; at most 56.
+ * half to the even one; at most 120.
  * Reads and writes no bytes. Refusal: 14.
  */
 uint64_t dimfrets_states_to_order(uint64_t t, uint64_t p);
@@ -207,7 +221,7 @@ uint64_t dimfrets_bundle_sheet(const uint8_t *in, size_t in_len, uint64_t n);
  * Reads sheets at `in`, laid end to end; there may be none. Writes the bundle of them
  * at `out`: their bytes as they are, then the trailer. Answers the number of bytes
  * written, in_len + 2 * number + 2. A sheet stands whole if its first byte is from 64
- * to 92 and as many bytes as that less 56 are there; no other byte of it is looked
+ * to 124 and as many bytes as that less 56 are there; no other byte of it is looked
  * at, so it may earn the refusals of a sheet when it is read.
  * Refusals, the first that holds: 20 (at least 513 sheets stand whole, end to end,
  * from the front, whatever follows); 21 (those that stand whole do not end where the
@@ -231,7 +245,7 @@ uint64_t dimfrets_sheets_to_bundle(const uint8_t *in, size_t in_len,
  *   h   h q[1];       s   s q[1];       C   cu1(pi/2) q[0],q[1];
  *
  * Each line ends in one line feed. Answers the number of bytes written, from 47 to
- * 172,079. How deep the list goes is not looked at: there is no refusal 9.
+ * 344,111. How deep the list goes is not looked at: there is no refusal 9.
  * Refusals, the first that holds: 7, 8 (at any place), 6 (out_len below the number of
  * bytes of the text).
  */
@@ -247,7 +261,7 @@ uint64_t dimfrets_gates_to_qasm(const uint8_t *in, size_t in_len,
  * and read is the same list.
  * Refusals, the first that holds: 23 (anywhere in the text: a line that is none of
  * these, one of the first three lines missing, repeated or out of its place, or a last
- * line with no line feed; also no text at all); 7 (more than 8,192 statements); 6
+ * line with no line feed; also no text at all); 7 (more than 16,384 statements); 6
  * (out_len below the number of statements).
  */
 uint64_t dimfrets_qasm_to_gates(const uint8_t *in, size_t in_len,
@@ -309,6 +323,13 @@ static inline unsigned dimfrets_sign(uint64_t answer)
 static inline unsigned dimfrets_omega(uint64_t answer)
 {
     return (unsigned)(answer >> 56);
+}
+
+/* The length of the operator file that is written for a count: 73, or 145 above 28. */
+static inline size_t dimfrets_operator_bytes(unsigned count)
+{
+    return count <= DIMFRETS_MAX_SHORT_EXPONENT ? DIMFRETS_SHORT_OPERATOR_BYTES
+                                                : DIMFRETS_LONG_OPERATOR_BYTES;
 }
 
 #ifdef __cplusplus
