@@ -1,7 +1,7 @@
 //! An operator in both kinds of file and at several exponents: one result, all bytes of the output included,
 //! and where it is refused, one refusal.
 
-use plain::file::{Kind, MAX_EXPONENT, MAX_SHORT_EXPONENT};
+use plain::file::{Kind, MAX_EXPONENT};
 use plain::gate::LETTERS_PER_COUNT;
 use plain::matrix::SIZE;
 use plain::operator::Operator;
@@ -46,12 +46,6 @@ fn files(random: &mut Random, operator: &Operator) -> Vec<Vec<u8>> {
             }
         }
     }
-    let kinds = if operator.exponent <= MAX_SHORT_EXPONENT {
-        2
-    } else {
-        1
-    };
-    assert_eq!(files.len(), kinds * (1 + LARGER));
     files
 }
 

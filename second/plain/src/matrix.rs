@@ -81,8 +81,8 @@ pub fn odd_bits(row: &[i64; SIZE]) -> u8 {
 ///
 /// The matrix times its transpose is 2 to the power k, so the square of its determinant is 2 to the power
 /// 6 k, and the determinant itself 2 to the power 3 k or the negative of that. The two differ by a power of
-/// two, which no odd number above 1 divides: modulo [`PRIME`] they are still two, and which of them it is can
-/// be told there, where no number grows.
+/// two, which no odd number above 1 divides: modulo an odd prime they are still two, and which of them it is
+/// can be told there, where no number grows.
 pub fn has_positive_determinant(matrix: &Matrix, exponent: u8) -> bool {
     determinant_is(matrix, power_of_two(3 * u32::from(exponent)))
 }

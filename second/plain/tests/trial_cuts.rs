@@ -28,7 +28,7 @@ const MINUS_IDENTITY_SHEET: &[u8] = &[64, 1, 2, 3, 4, 5, 6, 1];
 const C_SHEET: &[u8] = &[65, 3, 1, 2, 3, 4, 5, 6, 0];
 const CZ_SHEET: &[u8] = &[64, 2, 129, 6, 5, 132, 131, 0];
 
-/// The kinds of operator file, and for each its file.
+/// The operator's file of each kind.
 fn files(matrix: Matrix, exponent: u8) -> [Vec<u8>; 2] {
     Kind::ALL.map(|kind| kind.file(&Operator { matrix, exponent }))
 }

@@ -10,7 +10,7 @@ use crate::call::{Answer, Call};
 
 const LEAST: u64 = 1000;
 
-/// What a file is: its kind, and whether a short one would have done.
+/// What a file is: its kind, and of a long one whether the operator is small enough for a short one.
 #[derive(Clone, Copy)]
 enum Class {
     Short,
@@ -20,8 +20,8 @@ enum Class {
 
 const CLASSES: [(Class, &str); 3] = [
     (Class::Short, "short file"),
-    (Class::SmallInLong, "long file of a count up to 28"),
-    (Class::LargeInLong, "long file of a count above 28"),
+    (Class::SmallInLong, "long file of a small operator"),
+    (Class::LargeInLong, "long file of a large operator"),
 ];
 
 /// What a call does with operator files.

@@ -159,8 +159,8 @@ pub const BYTE_DAMAGES: [Damage; 18] = [
     text_again,
 ];
 
-/// The place of a line, if there are any: often one of the first, the last, or one around statement
-/// 8,192.
+/// The place of a line, if there are any: often one of the first, the last, or one around the last statement
+/// that there may be.
 fn place_in(random: &mut Random, text: &Text) -> Option<usize> {
     let last = text.lines.len().checked_sub(1)?;
     let place = match random.below(8) {
