@@ -83,10 +83,20 @@ pub fn operator(random: &mut Random, count: u8) -> Operator {
     operator.times(&clifford(random))
 }
 
-/// An operator of the given count whose L, the number of cuts that group as 2 and 4, is to be `wanted`, which
-/// is below the count, or 0 where that is. The generators go to the left, where cutting begins, and each is
-/// to raise L or to leave it; where none of them does as drawn, L comes out otherwise.
-pub fn operator_by_loose(random: &mut Random, count: u8, wanted: u8) -> Operator {
+/// An operator of the given count whose L, the number of cuts that group as 2 and 4, is `wanted`, which is
+/// below the count, or 0 where that is.
+pub fn operator_of_loose(random: &mut Random, count: u8, wanted: u8) -> Operator {
+    loop {
+        let operator = operator_by_loose(random, count, wanted);
+        if Sheet::cut_with_loose(operator).1 == wanted {
+            return operator;
+        }
+    }
+}
+
+/// The same, as a rule. The generators go to the left, where cutting begins, and each is to raise L or to
+/// leave it; where none of them does as drawn, L comes out otherwise.
+fn operator_by_loose(random: &mut Random, count: u8, wanted: u8) -> Operator {
     let mut operator = clifford(random);
     let mut so_far = 0;
     while operator.exponent < count {
@@ -99,16 +109,6 @@ pub fn operator_by_loose(random: &mut Random, count: u8, wanted: u8) -> Operator
         so_far = loose(&operator, so_far);
     }
     operator
-}
-
-/// The same, drawn again until L is the wanted one.
-pub fn operator_of_loose(random: &mut Random, count: u8, wanted: u8) -> Operator {
-    loop {
-        let operator = operator_by_loose(random, count, wanted);
-        if Sheet::cut_with_loose(operator).1 == wanted {
-            return operator;
-        }
-    }
 }
 
 /// The products with a generator on the left that raises the exponent, in a random order.
@@ -143,14 +143,10 @@ pub fn inflated(random: &mut Random, operator: &Operator, kind: Kind) -> Operato
     }
 }
 
-/// The file of an operator, at the exponent it has: a short one where that suffices.
+/// The file of an operator, at the exponent it has: a short one where that suffices. Of a kind that is asked
+/// for, it is [`Kind::file`].
 pub fn file(operator: &Operator) -> Vec<u8> {
     Kind::written(operator.exponent).file(operator)
-}
-
-/// The long file of an operator, at the exponent it has.
-pub fn long_file(operator: &Operator) -> Vec<u8> {
-    Kind::Long.file(operator)
 }
 
 /// The bytes of the sheet that cutting an operator of the given count gives.
@@ -186,9 +182,10 @@ mod tests {
             let operator = operator(&mut random, count);
             assert_eq!(operator.exponent, count);
             assert_eq!(Operator::read(&file(&operator)), Ok(operator));
-            assert_eq!(Operator::read(&long_file(&operator)), Ok(operator));
+            assert_eq!(Operator::read(&Kind::Long.file(&operator)), Ok(operator));
             let inflated = inflated(&mut random, &operator, Kind::Long);
-            assert_eq!(Operator::read(&long_file(&inflated)), Ok(operator));
+            assert_eq!(Operator::read(&file(&inflated)), Ok(operator));
+            assert_eq!(Operator::read(&Kind::Long.file(&inflated)), Ok(operator));
             let sheet = sheet(&mut random, count);
             assert_eq!(sheet.len(), usize::from(count) + MIN_SHEET);
         }
@@ -217,7 +214,6 @@ mod tests {
             let operator = operator(&mut random, count);
             let len = if count <= 28 { 73 } else { 145 };
             assert_eq!(file(&operator).len(), len);
-            assert_eq!(long_file(&operator).len(), 145);
         }
     }
 
