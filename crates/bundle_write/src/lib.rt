@@ -91,7 +91,7 @@ fn write_bundle(sheets: &[u8], count: usize, out: &mut [u8]) -> usize
 }
 
 // Sheets that are stored end to end into a bundle at the front of `out`.
-// Wrong, and refused: a sheet of 37 bytes, or one that is cut short, taken; what follows the sheets left out; the numbers of the sheets for their
+// Wrong, and refused: a sheet of 69 bytes, or one that is cut short, taken; what follows the sheets left out; the numbers of the sheets for their
 // offsets; no number at the end; 22 for more than 512 sheets.
 pub fn sheets_to_bundle(sheets: &[u8], out: &mut [u8]) -> Wrote
     ensures { λ r. ⌜ BundlePromise (now (sheets .entry)) (now (out .entry)) (now (out .exit)) r ⌝ }

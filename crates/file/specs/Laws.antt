@@ -2,3 +2,4 @@
 pub mod Written
 pub mod Bytes
 pub mod File
+pub mod Encoding

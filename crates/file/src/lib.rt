@@ -6,7 +6,7 @@ ghost use Prim.Native.Nat.{_+_, _*_, _^_, _<_, _≤_};
 ghost use lib.IntN.{natAbs};
 ghost use lib.ListN.{length};
 ghost use Rattle.matrix.specs.Range.{tabulate};
-ghost use Rattle.file.specs.File.{Appended, Fits, shortFile, longFile, bitsOf, byteOf, entryOf, exponentOf, fileMatrix, fileOf, highestOf, isLength, kindFor, kindOf, lengthFor, lengthOf, noOperator, signedOf, twoAt, widthOf, written};
+ghost use Rattle.file.specs.File.{Appended, Fits, shortFile, longFile, bitsOf, byteOf, entryOf, exponentOf, fileAs, fileMatrix, fileOf, isLength, kindFor, kindOf, lengthFor, lengthOf, longLength, noOperator, shortLength, signedOf, twoAt, written};
 
 // The bytes of a short operator file and of a long one.
 pub const SHORT_LENGTH: usize = 73;
@@ -75,30 +75,10 @@ pub fn length_for(k: u8) -> usize
     SHORT_LENGTH
 }
 
-// The bytes of each of its entries.
-fn width_for(k: u8) -> usize
-    ensures { λ r. ⌜ r ≡ widthOf (kindFor k) ⌝ }
-{
-    if SHORT_EXPONENT < k {
-        return 4;
-    }
-    2
-}
-
 // What the highest bit of an entry is worth, in a short file and in a long one.
 const SHORT_HIGHEST: usize = 32768;
 
 const LONG_HIGHEST: usize = 2147483648;
-
-// What it is worth in the file that is written for the exponent k.
-fn highest_for(k: u8) -> usize
-    ensures { λ r. ⌜ r ≡ highestOf (kindFor k) ⌝ }
-{
-    if SHORT_EXPONENT < k {
-        return LONG_HIGHEST;
-    }
-    SHORT_HIGHEST
-}
 
 // The number that these bits are in two's complement, where the highest of them is worth `highest`.
 fn signed(u: usize, highest: usize) -> i64
@@ -180,10 +160,10 @@ fn unsigned(x: i64, highest: usize) -> usize
     x as usize
 }
 
-// The low bytes of u, so many as `width` says, from `at` on; the place after them.
-fn write_number(u: usize, width: usize, out: &mut [u8], at: usize) -> usize
+// The low bytes of u, so many as `width` says, from `at` on.
+fn write_number(u: usize, width: usize, out: &mut [u8], at: usize)
     requires { ⌜ at + width ≤ length (now out) ⌝ }
-    ensures { λ r. ⌜ Appended (tabulate (byteOf u) 0 width) at (now (out .entry)) (now (out .exit)) r ⌝ }
+    ensures { λ r. ⌜ Appended (tabulate (byteOf u) 0 width) at (now (out .entry)) (now (out .exit)) (at + width) ⌝ }
 {
     let mut rest = u;
     let mut n = 0usize;
@@ -192,22 +172,42 @@ fn write_number(u: usize, width: usize, out: &mut [u8], at: usize) -> usize
         rest = rest / 256;
         n += 1;
     }
-    at + n
 }
 
-// The file of (k, m) at the front of `out`; the bytes past it stay.
+// The short file of (k, m) at the front of `out`; the bytes past it stay.
+fn encode_short(k: u8, m: [i64; 36], out: &mut [u8])
+    requires { ⌜ (shortLength ≤ length (now out)) × Fits shortFile m ⌝ }
+    ensures { λ r. ⌜ now (out .exit) ≡ written (now (out .entry)) (fileAs shortFile k m) ⌝ }
+{
+    out[0] = k;
+    let mut n = 0usize;
+    while n < 36 {
+        write_number(unsigned(m[n], SHORT_HIGHEST), 2, out, 1 + 2 * n);
+        n += 1;
+    }
+}
+
+// The long file.
+fn encode_long(k: u8, m: [i64; 36], out: &mut [u8])
+    requires { ⌜ (longLength ≤ length (now out)) × Fits longFile m ⌝ }
+    ensures { λ r. ⌜ now (out .exit) ≡ written (now (out .entry)) (fileAs longFile k m) ⌝ }
+{
+    out[0] = k;
+    let mut n = 0usize;
+    while n < 36 {
+        write_number(unsigned(m[n], LONG_HIGHEST), 4, out, 1 + 4 * n);
+        n += 1;
+    }
+}
+
+// The file of (k, m), of the kind that k calls for, at the front of `out`; the bytes past it stay.
 pub fn encode(k: u8, m: [i64; 36], out: &mut [u8])
     requires { ⌜ (lengthFor k ≤ length (now out)) × Fits (kindFor k) m ⌝ }
     ensures { λ r. ⌜ now (out .exit) ≡ written (now (out .entry)) (fileOf k m) ⌝ }
 {
-    let width = width_for(k);
-    let highest = highest_for(k);
-    out[0] = k;
-    let mut at = 1usize;
-    let mut n = 0usize;
-    while n < 36 {
-        let next = write_number(unsigned(m[n], highest), width, out, at);
-        at = next;
-        n += 1;
+    if SHORT_EXPONENT < k {
+        encode_long(k, m, out);
+    } else {
+        encode_short(k, m, out);
     }
 }

@@ -72,9 +72,6 @@ loop-again c =
     let a = c .before .before .args in
     (search needs, l .inv .1, next (a .u) (l .n) (l .rest) (l .inv .2), rw (l .inv .2) (turn (a .u) (a .at) (l .n) (now (a .out)) (l .out) (l .inv .3) (omega arith)))
 
-add-result : tie.Need-add-result Inv-loop μ-loop
-add-result c = search needs
-
 same-length : tie.Need-same-length Inv-loop μ-loop
 same-length c =
     let l = c .before .loop in
@@ -103,6 +100,5 @@ write-number-spec =
     add-n
     loop-less
     loop-again
-    add-result
     same-length
     returns)
