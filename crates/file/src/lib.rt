@@ -205,9 +205,9 @@ pub fn encode(k: u8, m: [i64; 36], out: &mut [u8])
     requires { ⌜ (lengthFor k ≤ length (now out)) × Fits (kindFor k) m ⌝ }
     ensures { λ r. ⌜ now (out .exit) ≡ written (now (out .entry)) (fileOf k m) ⌝ }
 {
-    if SHORT_EXPONENT < k {
-        encode_long(k, m, out);
-    } else {
+    if k <= SHORT_EXPONENT {
         encode_short(k, m, out);
+    } else {
+        encode_long(k, m, out);
     }
 }

@@ -35,20 +35,26 @@ isClifford bs = arePermutation bs && isEven bs
 abbrev pub hasWrongSign : List ℕ → ℕ → Bool
 hasWrongSign bs s = ltb 1 s || isMinus (getD bs 0 0)
 
--- the tests of a sheet's bytes in their order: "number 10 allows 8 to" 68, "16, a first byte that isn't the length plus 56, directly after 10",
+-- the tests of a sheet's bytes in their order: "number 10 allows 8 to" the largest length, "16, a first byte that isn't the length plus 56, directly after 10",
 -- "11: a generator byte outside 1 to 15, or a column byte outside 1 to 6 and 129 to 134", "12: the six columns are no Clifford", "15, a last byte
--- above 1 or a negative column 1, directly after 12"; n where they pass all
-abbrev pub bytesRefusal : List ℕ → ℕ → ℕ
-bytesRefusal s n =
-    cond (ltb (length s) shortest || ltb longest (length s)) 10
+-- above 1 or a negative column 1, directly after 12"; n where they pass all. The largest length is l
+abbrev pub bytesRefusalTo : ℕ → List ℕ → ℕ → ℕ
+bytesRefusalTo l s n =
+    cond (ltb (length s) shortest || ltb l (length s)) 10
     (cond (not (isCounted s)) 16
     (cond (not (areNumbers s && areColumnBytes (sheetColumns s))) 11
     (cond (not (isClifford (sheetColumns s))) 12
     (cond (hasWrongSign (sheetColumns s) (sheetSign s)) 15 n))))
 
+abbrev pub bytesRefusal : List ℕ → ℕ → ℕ
+bytesRefusal = bytesRefusalTo longest
+
 -- the refusals of a sheet: these, then "13: cutting its operator gives another sheet". 0 is none
+abbrev pub sheetRefusalTo : ℕ → List ℕ → ℕ
+sheetRefusalTo l s = bytesRefusalTo l s (cond (not (sameList (sheetOf (sheetOperator s)) s)) 13 0)
+
 unfoldable pub sheetRefusal : List ℕ → ℕ
-sheetRefusal s = bytesRefusal s (cond (not (sameList (sheetOf (sheetOperator s)) s)) 13 0)
+sheetRefusal s = sheetRefusalTo longest s
 
 -- a sheet's operator at its least exponent
 unfoldable pub sheetLeast : List ℕ → Least

@@ -14,16 +14,16 @@ long k h = rw (lt-ltb shortExponent k h)
 short : (k : ℕ) → k ≤ shortExponent → kindFor k ≡ shortFile
 short k h = rw (le-ltb shortExponent k h)
 
-encode-long-requires : tie.Need-encode-long-requires
-encode-long-requires c κs =
-    let s = c .before .before .before in
-    let e = long (s .args .k) (c .before .if1 .taken) in
-    (subst (λ t. lengthOf t ≤ length (now (s .args .out))) e (s .pre .0), subst (λ t. Fits t (s .args .m)) e (s .pre .1))
-
 encode-short-requires : tie.Need-encode-short-requires
 encode-short-requires c κs =
     let s = c .before .before .before in
-    let e = short (s .args .k) (c .before .if1 .left) in
+    let e = short (s .args .k) (c .before .if1 .taken) in
+    (subst (λ t. lengthOf t ≤ length (now (s .args .out))) e (s .pre .0), subst (λ t. Fits t (s .args .m)) e (s .pre .1))
+
+encode-long-requires : tie.Need-encode-long-requires
+encode-long-requires c κs =
+    let s = c .before .before .before in
+    let e = long (s .args .k) (c .before .if1 .left) in
     (subst (λ t. lengthOf t ≤ length (now (s .args .out))) e (s .pre .0), subst (λ t. Fits t (s .args .m)) e (s .pre .1))
 
 same-length : tie.Need-same-length
@@ -33,7 +33,7 @@ returns : tie.Need-returns
 returns c =
     let t = c .before .before .before .before in
     let s = t .before .before in
-    c .before .before .encode-long .ensures ∙ ap (λ t. written (now (s .args .out)) (fileAs t (s .args .k) (s .args .m))) (sym (long (s .args .k) (t .if1 .taken)))
+    c .before .before .encode-short .ensures ∙ ap (λ t. written (now (s .args .out)) (fileAs t (s .args .k) (s .args .m))) (sym (short (s .args .k) (t .if1 .taken)))
 
 same-length-2 : tie.Need-same-length-2
 same-length-2 c = search needs
@@ -42,14 +42,14 @@ returns-2 : tie.Need-returns-2
 returns-2 c =
     let t = c .before .before .before .before in
     let s = t .before .before in
-    c .before .before .encode-short .ensures ∙ ap (λ t. written (now (s .args .out)) (fileAs t (s .args .k) (s .args .m))) (sym (short (s .args .k) (t .if1 .left)))
+    c .before .before .encode-long .ensures ∙ ap (λ t. written (now (s .args .out)) (fileAs t (s .args .k) (s .args .m))) (sym (long (s .args .k) (t .if1 .left)))
 
 pub encode-spec : {M : Type 1} → statement M
 encode-spec =
     tie.close
     (tie.spec
-    encode-long-requires
     encode-short-requires
+    encode-long-requires
     same-length
     returns
     same-length-2
