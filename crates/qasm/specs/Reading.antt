@@ -65,7 +65,7 @@ afterLines (h ∷ hs) (l ∷ ls) = cond (sameList l h) (afterLines hs ls) (refus
 unfoldable pub readText : List ℕ → Reading
 readText bs = afterLines firstLines (lines bs)
 
--- 7, "more than 8,192 letters"
+-- 7, more than 16,384 letters
 abbrev pub limited : Reading → Reading
 limited (gates w) = cond (ltb largestList (length w)) (refusal 7) (gates w)
 limited (refusal n) = refusal n

@@ -95,6 +95,6 @@ body (g ∷ w) = body w ++ statement g
 unfoldable pub textOf : List Gate → List ℕ
 textOf w = flatten firstLines ++ body w
 
--- the most bytes of a text that is written: "more than 8,192 letters" are refused
+-- the most bytes of a text that is written: more than 16,384 letters are refused
 abbrev pub longestText : ℕ
 longestText = firstLength + longestStatement * largestList

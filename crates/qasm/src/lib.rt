@@ -112,7 +112,7 @@ fn write_statements(letters: &[u8], out: &mut [u8], at: usize) -> usize
 }
 
 // A gate list into OpenQASM 2.0 text at the front of `out`.
-// Wrong, and refused: the letters in the list's own order; q[1] for the first qubit; a byte that is no letter taken for the end; 7 at 8,192 letters; a
+// Wrong, and refused: the letters in the list's own order; q[1] for the first qubit; a byte that is no letter taken for the end; 7 at 16,384 letters; a
 // buffer that the text fills refused; the statements over the first lines.
 pub fn gates_to_qasm(letters: &[u8], out: &mut [u8]) -> Wrote
     ensures { λ r. ⌜ TextPromise (now (letters .entry)) (now (out .entry)) (now (out .exit)) r ⌝ }

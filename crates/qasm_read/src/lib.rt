@@ -126,7 +126,7 @@ fn write_letters(text: &[u8], at: usize, count: usize, out: &mut [u8])
 
 // OpenQASM 2.0 text into a gate list at the front of `out`.
 // Wrong, and refused: a last line with no line feed, or `cz q[0], q[1];`, taken; 7 before 23; other first lines read; the letters in the order of the
-// statements; 7 at 8,192 statements; a buffer that the letters fill refused.
+// statements; 7 at 16,384 statements; a buffer that the letters fill refused.
 pub fn qasm_to_gates(text: &[u8], out: &mut [u8]) -> Wrote
     ensures { λ r. ⌜ LettersPromise (now (text .entry)) (now (out .entry)) (now (out .exit)) r ⌝ }
 {

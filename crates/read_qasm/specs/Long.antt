@@ -13,11 +13,11 @@ use Rattle.qasm.specs.Output.{outputOf}
 use Rattle.qasm.specs.Text.{longestStatement, longestText}
 use Rattle.qasm_read.specs.Statements.{NoStatement}
 
--- a text of so many bytes has more than 8,192 statements, or a line that is none
+-- a text of so many bytes has more than 16,384 statements, or a line that is none
 abbrev pub longer : ℕ
 longer = longestText + longestStatement
 
--- what is earned where these bytes follow the first three lines and more than 8,192 statements
+-- what is earned where these bytes follow the first three lines and more than 16,384 statements
 abbrev pub refused : Reading → Reading
 refused (gates w) = refusal 7
 refused (refusal n) = refusal n
@@ -25,7 +25,7 @@ refused (refusal n) = refusal n
 unfoldable pub behind : List ℕ → Reading
 behind bs = refused (statements (lines bs))
 
--- the first r bytes are the first three lines and more than 8,192 statements, or r is 0 and a line is wrong; whatever follows
+-- the first r bytes are the first three lines and more than 16,384 statements, or r is 0 and a line is wrong; whatever follows
 pub record StartOf (bs : List ℕ) (r : ℕ) : Type 0 where
   pub inside : r ≤ length bs
   pub long : 0 < r → longestText < r

@@ -12,7 +12,7 @@ ghost use Rattle.qasm.specs.Reading.{readQasm};
 ghost use Rattle.qasm.specs.Output.{outputOf};
 ghost use Rattle.read_qasm.specs.Long.{longer, StartOf, LeftOf, Earned, lastRefusal, OutputBehind};
 
-// A text of so many bytes has more than 8,192 statements, or a line that is none.
+// A text of so many bytes has more than 16,384 statements, or a line that is none.
 const LONGER: usize = qasm::LONGEST_TEXT + qasm::LONGEST_STATEMENT;
 
 // Room for part of a statement and the bytes that are read at a time.

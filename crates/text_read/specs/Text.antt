@@ -9,7 +9,7 @@ use Rattle.text_read.specs.declared.Number.the-variants.{Is, Unknown}
 
 -- ---- numbers read
 
--- every larger number is read as this one; it is above the limits of states to order, 28 and 1000, and above the number of any sheet in a bundle, so
+-- every larger number is read as this one; it is above the limits of states to order, 60 and 1000, and above the number of any sheet in a bundle, so
 -- the answer is the same
 abbrev pub largestNumber : ℕ
 largestNumber = 1000000

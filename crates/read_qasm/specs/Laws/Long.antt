@@ -19,7 +19,7 @@ use Rattle.qasm_read.specs.Laws.Statement.{no-statement, no-statement-more}
 use Rattle.qasm_read.specs.Laws.Statements.{starts-right, wrong}
 use Rattle.read_qasm.specs.Long.{longer, refused, behind, StartOf, LeftOf}
 
--- ---- behind more than 8,192 statements
+-- ---- behind more than 16,384 statements
 
 limited-many : (w : List Gate) (r : Reading) → largestList < length w → limited (followed w r) ≡ refused r
 limited-many w (gates v) h = rw (lt-ltb largestList (length (v ++ w)) (let a = length-append v w in omega arith))
