@@ -129,7 +129,8 @@ pub const LARGEST_LIST: usize = 16384;
 pub const LONGEST_WRITTEN: usize = 256 * (file::LARGEST_EXPONENT as usize + 1);
 
 // A gate list into an operator file at the front of `out`.
-// Wrong, and refused: 9 at a beginning whose least exponent is 60; the product at another exponent than its least one.
+// Wrong, and refused: 9 at a beginning whose least exponent is 29, or 60; the product at another exponent than its least one; a buffer of 73
+// bytes taken for a long file.
 pub fn gates_to_operator(letters: &[u8], out: &mut [u8]) -> Answer
     ensures { λ r. ⌜ ProductPromise (now (letters .entry)) (now (out .entry)) (now (out .exit)) r ⌝ }
 {

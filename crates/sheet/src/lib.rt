@@ -87,7 +87,7 @@ fn read_sheet(bytes: &[u8]) -> Read
 
 // A sheet into an operator file at the front of `out`.
 // Wrong, and refused: a sheet taken in that cutting would not give; the first generator multiplied in every place; the first byte taken for
-// a generator; the sign read from the last column.
+// a generator; the sign read from the last column; a buffer of 73 bytes taken for a long file.
 pub fn sheet_to_operator(bytes: &[u8], out: &mut [u8]) -> Answer
     ensures { λ r. ⌜ OperatorPromise (now (bytes .entry)) (now (out .entry)) (now (out .exit)) r ⌝ }
 {

@@ -1,4 +1,3 @@
-use mathlib.Core.Path.{ap₂}
 use Prim.Native.Nat.{ℕ, _*_, _^_, _<_, _≤_}
 use native.Mathlib.Omega.{arith}
 use lib.IntN.{pos, _-ℤ_}

@@ -3,8 +3,8 @@ use mathlib.Core.Path.{_≡_, refl, sym, ap, subst, _∙_}
 use mathlib.Core.List.{List, [], _∷_}
 use Prim.Native.Nat.{ℕ, _+_, _*_, _^_, _<_, _≤_}
 use native.Mathlib.Omega.{arith}
-use lib.IntN.{ℤ, pos, natAbs}
-use lib.ListN.{length, getD, set, length-set}
+use lib.IntN.{ℤ, pos}
+use lib.ListN.{length, getD, set}
 use mir.Syntax.{w64}
 use mir.Val.{toZ, ofZ}
 use Rattle.matrix.specs.Range.{tabulate}

@@ -1,7 +1,7 @@
 -- From text to text: a text read, its letters multiplied, the product cut, and the list written as text.
 use mathlib.Core.Path.{_≡_}
 use mathlib.Core.List.{List, map}
-use Prim.Native.Nat.{ℕ, _+_, _*_, _≤_}
+use Prim.Native.Nat.{ℕ, _≤_}
 use native.Mathlib.Omega.{arith}
 use lib.ListN.{length}
 use Rattle.matrix.specs.Operator.{SameOperator, SameUpToSign}
