@@ -22,8 +22,8 @@ abbrev pub largestList : ℕ
 largestList = 16384
 
 -- the bytes that have room for every gate list that is written: 6 is "shorter than 256 × (t + 1)", and t is at most 60
-abbrev pub longestWritten : ℕ
-longestWritten = 256 * (largestExponent + 1)
+abbrev pub gatesBuffer : ℕ
+gatesBuffer = 256 * (largestExponent + 1)
 
 -- a list's product "over the least power of root two"
 unfoldable pub leastOf : List Gate → Least

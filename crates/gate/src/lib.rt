@@ -126,7 +126,7 @@ fn read_letters(letters: &[u8]) -> Read
 pub const LARGEST_LIST: usize = 16384;
 
 // The bytes that have room for every gate list that is written.
-pub const LONGEST_WRITTEN: usize = 256 * (file::LARGEST_EXPONENT as usize + 1);
+pub const GATES_BUFFER: usize = 256 * (file::LARGEST_EXPONENT as usize + 1);
 
 // A gate list into an operator file at the front of `out`.
 // Wrong, and refused: 9 at a beginning whose least exponent is 29, or 60; the product at another exponent than its least one; a buffer of 73

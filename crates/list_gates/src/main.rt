@@ -9,7 +9,7 @@ ghost use Rattle.list_gates.specs.Output.{Printed};
 fn answer(file: &[u8], out: &mut [u8; 16384]) -> usize
     ensures { λ r. ⌜ Printed (now (file .entry)) (now (out .entry)) (now (out .exit)) r × Counts r (now (out .exit)) ⌝ }
 {
-    let mut gates = [0u8; gate::LONGEST_WRITTEN];
+    let mut gates = [0u8; gate::GATES_BUFFER];
     let answer = operator::operator_to_gates(file, &mut gates);
     match answer {
         Listed::Letters {

@@ -9,7 +9,7 @@ ghost use Rattle.list_unitary.specs.Output.{Printed};
 fn answer(bytes: &[u8], out: &mut [u8; 16384]) -> usize
     ensures { λ r. ⌜ Printed (now (bytes .entry)) (now (out .entry)) (now (out .exit)) r × Counts r (now (out .exit)) ⌝ }
 {
-    let mut gates = [0u8; gate::LONGEST_WRITTEN];
+    let mut gates = [0u8; gate::GATES_BUFFER];
     let answer = unitary_gates::unitary_to_gates(bytes, &mut gates);
     match answer {
         Synthesis::Letters {

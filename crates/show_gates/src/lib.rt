@@ -86,7 +86,7 @@ fn end_list(answer: Listed, buffer: &[u8]) {
 
 // An operator file, by its gate list.
 pub fn list_case(name: &[u8], file: &[u8]) {
-    let mut gates = [show::UNWRITTEN; gate::LONGEST_WRITTEN];
+    let mut gates = [show::UNWRITTEN; gate::GATES_BUFFER];
     show::show(name);
     end_list(operator::operator_to_gates(file, &mut gates), &gates);
 }

@@ -54,7 +54,7 @@ const CHC: [u8; 65] = *b"\x01\
 
 // A unitary, by its gate list.
 fn unitary_case(name: &[u8], bytes: &[u8]) {
-    let mut gates = [show::UNWRITTEN; gate::LONGEST_WRITTEN];
+    let mut gates = [show::UNWRITTEN; gate::GATES_BUFFER];
     show::show(name);
     match unitary_gates::unitary_to_gates(bytes, &mut gates) {
         Synthesis::Letters {

@@ -225,7 +225,9 @@ pub fn operator_bytes(count: u8) -> usize {
 /// Cuts an operator file into its sheet and answers the count t and L, which is below t, or 0 where t
 /// is. The file is a byte k and 36 entries row by row, low byte first, two's complement: 73 bytes with k at
 /// most 28 and entries of 16 bits, or 145 bytes with k at most 60 and entries of 32 bits; both kinds of one
-/// operator have one result. The sheet has t + 8 bytes: 64 + t, t generator numbers, six columns of a Clifford whose column 1
+/// operator have one result.
+///
+/// The sheet has t + 8 bytes: 64 + t, t generator numbers, six columns of a Clifford whose column 1
 /// is positive, and a last byte, 0 for their product and 1 for its negative. Two operators agree up to
 /// sign exactly when their sheets agree before the last byte. Sheets laid end to end can be told apart:
 /// each is as long as its first byte less 56.
@@ -235,10 +237,10 @@ pub fn operator_to_sheet(file: &[u8], out: &mut [u8]) -> Result<Cuts, Refusal> {
     cuts(run(dimfrets_operator_to_sheet, file, out))
 }
 
-/// Cuts an operator file of either kind into a gate list of t letters C, the fewest for the operator and for its negative;
-/// `out` has at least 256 × (t + 1) bytes. Each stretch without C, the ends included, has as many Z as there
-/// are indices among 1 to 3 that it sends to 4 to 6; no Clifford letters with that product, up to sign,
-/// have fewer. The list multiplies to the operator if the sign is 0, and to its negative if it is 1.
+/// Cuts an operator file of either kind into a gate list of t letters C, the fewest for the operator and for
+/// its negative; `out` has at least 256 × (t + 1) bytes. Each stretch without C, the ends included, has as
+/// many Z as there are indices among 1 to 3 that it sends to 4 to 6; no Clifford letters with that product, up
+/// to sign, have fewer. The list multiplies to the operator if the sign is 0, and to its negative if it is 1.
 ///
 /// Refuses with [`Refusal::FileLength`] to [`Refusal::BufferTooShort`], in their order.
 pub fn operator_to_gates(file: &[u8], out: &mut [u8]) -> Result<Letters, Refusal> {

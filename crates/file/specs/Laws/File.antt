@@ -7,7 +7,7 @@ use native.Mathlib.Omega.{arith}
 use lib.Dec.{eqb, ltb}
 use lib.IntN.{ℤ, pos, natAbs}
 use lib.ListN.{length, getD}
-use borrow.Author.Tests.{eqb-true, ltb-true, ltb-false, le-ltb}
+use borrow.Author.Tests.{eqb-true, ltb-true, ltb-false, lt-ltb, le-ltb}
 use Rattle.matrix.specs.Matrix.{entry}
 use Rattle.matrix.specs.Operator.{operator, Orthogonal}
 use Rattle.matrix.specs.Array.{Bounded}
@@ -53,9 +53,12 @@ kind-range k h = for-kind (λ t. k ≤ exponentOf t) k (λ s. s) (λ l. h)
 pub length-most : (k : ℕ) → lengthFor k ≤ longLength
 length-most k = for-kind (λ t. lengthOf t ≤ longLength) k (λ s. omega arith) (λ l. omega arith)
 
--- "is what we write when it suffices"
-pub short-for : (k : ℕ) → k ≤ shortExponent → lengthFor k ≡ shortLength
+-- "is what we write when it suffices", and else the long file
+pub short-for : (k : ℕ) → k ≤ shortExponent → kindFor k ≡ shortFile
 short-for k h = rw (le-ltb shortExponent k h)
+
+pub long-for : (k : ℕ) → shortExponent < k → kindFor k ≡ longFile
+long-for k h = rw (lt-ltb shortExponent k h)
 
 -- the places of an entry's bytes are in the file
 places : (t : Kind) (n j : ℕ) → n < 36 → j < widthOf t → 1 + (widthOf t * n + j) < lengthOf t

@@ -9,7 +9,7 @@ use lib.Seq.{take-at, length-take-le}
 use Rattle.file.specs.File.{written}
 use Rattle.letter.specs.declared.Gate.{Gate}
 use Rattle.letter.specs.Gate.{letter}
-use Rattle.gate.specs.Reading.{longestWritten}
+use Rattle.gate.specs.Reading.{gatesBuffer}
 use Rattle.operator.specs.declared.Listed.{Listed}
 use Rattle.operator.specs.declared.Listed.the-variants.{Letters, Refused}
 use Rattle.acceptance.specs.Acceptance.{fileRefusal}
@@ -27,7 +27,7 @@ pub record Lettered (b new : List ℕ) (t n l s : ℕ) : Type 0 where
   -- room for the four lines
   pub room : length (countLine t) + length (gatesLine (take n new)) + length (looseLine l) + length (signLine s) ≤ 16384
 
-module _ (b old new : List ℕ) (a : Listed) (room : longestWritten ≤ length old) (p : GatesPromise b old new a) where
+module _ (b old new : List ℕ) (a : Listed) (room : gatesBuffer ≤ length old) (p : GatesPromise b old new a) where
   handed : (z : fileRefusal b ≡ 0) → (w : List Gate) × (s : ℕ) × Handed b old new a w s
   handed z = let k = count-small b z in p .handed z (omega arith)
 

@@ -9,7 +9,7 @@ use lib.Seq.{take-at, length-take-le}
 use Rattle.file.specs.File.{written}
 use Rattle.letter.specs.declared.Gate.{Gate}
 use Rattle.letter.specs.Gate.{letter}
-use Rattle.gate.specs.Reading.{longestWritten}
+use Rattle.gate.specs.Reading.{gatesBuffer}
 use Rattle.unitary_gates.specs.declared.Synthesis.{Synthesis}
 use Rattle.unitary_gates.specs.declared.Synthesis.the-variants.{Letters, Refused}
 use Rattle.unitary_file.specs.Unitary.{unitaryOf, unitaryRefusal}
@@ -26,7 +26,7 @@ pub record Lettered (b new : List ℕ) (t n l s : ℕ) : Type 0 where
   -- room for the four lines
   pub room : length (countLine t) + length (gatesLine (take n new)) + length (looseLine l) + length (omegaLine s) ≤ 16384
 
-module _ (b old new : List ℕ) (a : Synthesis) (room : longestWritten ≤ length old) (p : UnitaryPromise b old new a) where
+module _ (b old new : List ℕ) (a : Synthesis) (room : gatesBuffer ≤ length old) (p : UnitaryPromise b old new a) where
   handed : (z : unitaryRefusal b ≡ 0) → (w : List Gate) × (s : ℕ) × Handed b old new a w s
   handed z = let k = count-small b z in p .handed z (omega arith)
 

@@ -13,7 +13,7 @@ use Rattle.clifford.specs.Laws.Sign.{sign-same, up-to-sign, sign-of-both}
 use Rattle.letter.specs.declared.Gate.{Gate}
 use Rattle.letter.specs.Gate.{letter}
 use Rattle.gate.specs.Product.{productOf, csGates}
-use Rattle.gate.specs.Reading.{longestWritten, gates, reading, leastOf, productFile}
+use Rattle.gate.specs.Reading.{gatesBuffer, gates, reading, leastOf, productFile}
 use Rattle.gate.specs.Laws.Reading.{read-small, read-into}
 use Rattle.acceptance.specs.Acceptance.{fileRefusal}
 use Rattle.operator.specs.declared.Listed.{Listed}
@@ -44,7 +44,7 @@ module _ (bs : List ℕ) (w : List Gate) (e : readQasm bs ≡ gates w) (f : read
   file-means = same-operator-trans (same-operator-sym (text-means bs w (read-within bs w e .0) .same)) (read-into (map letter w) w f .multiplies .same)
 
   -- what `operator_to_gates` then writes into a buffer that has room for any list
-  pub text-to-text : (old new : List ℕ) (a : Listed) → GatesPromise (productFile w) old new a → longestWritten ≤ length old
+  pub text-to-text : (old new : List ℕ) (a : Listed) → GatesPromise (productFile w) old new a → gatesBuffer ≤ length old
       → (v : List Gate) × (s : ℕ) × Handed (productFile w) old new a v s × Shortest bs v s
   text-to-text old new a p h =
       let z = product-accepted (map letter w) w f in

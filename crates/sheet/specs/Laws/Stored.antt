@@ -11,6 +11,7 @@ use lib.ListN.{length}
 use borrow.Author.Tests.{eq-eqb, ne-eqb, le-ltb}
 use Rattle.file.specs.declared.Answer.the-variants.{Count, Refused}
 use Rattle.file.specs.File.{shortFile, shortLength, shortExponent, kindFor, lengthOf, fileAs, written}
+use Rattle.file.specs.Laws.File.{short-for}
 use Rattle.sheet_bytes.specs.Bytes.{shortest, longest}
 use Rattle.sheet_bytes.specs.Sheet.{sheetRefusalTo, sheetRefusal, sheetLeast}
 use Rattle.sheet.specs.Promise.{sheetFile, operatorAnswer, operatorBuffer}
@@ -26,7 +27,7 @@ module _ (s : List ℕ) (h : length s ≤ longestStored) where
   stored-refusal = rw (le-ltb longest (length s) (omega arith), le-ltb longestStored (length s) h) refl
 
   short-kind : sheetRefusal s ≡ 0 → kindFor (sheetLeast s .exponent) ≡ shortFile
-  short-kind z = let e = sheet-exact s (accepted s z) in rw (le-ltb shortExponent (sheetLeast s .exponent) (omega arith))
+  short-kind z = let e = sheet-exact s (accepted s z) in short-for (sheetLeast s .exponent) (omega arith)
 
   -- the short file of its operator
   pub stored-file : sheetRefusal s ≡ 0 → sheetFile s ≡ fileAs shortFile (sheetLeast s .exponent) (sheetLeast s .matrix)
