@@ -10,5 +10,6 @@ pub mod Operator
 pub mod Range
 pub mod Machine
 pub mod Array
+pub mod Inverse
 pub mod Right
 pub mod Rows

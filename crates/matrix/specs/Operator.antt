@@ -5,7 +5,7 @@ use Prim.Native.Nat.{ℕ, zero, suc, _+_, _^_, _<_, _≤_}
 use lib.IntN.{ℤ, pos, negsuc, _+ℤ_}
 use lib.Signed.{_<ℤ_}
 use Rattle.matrix.specs.Integer.{Even}
-use Rattle.matrix.specs.Matrix.{Matrix, product, scaled, OrthogonalRows}
+use Rattle.matrix.specs.Matrix.{Matrix, δ, product, transpose, scaled, OrthogonalRows}
 use Rattle.matrix.specs.Determinant.{det}
 
 -- ---- ℤ[√2]: the pair (a, b) is a + b √2
@@ -42,6 +42,14 @@ operator k M = record { exponent = k; matrix = M }
 -- the product of two operators
 abbrev pub timesOperator : Operator → Operator → Operator
 timesOperator A B = operator (A .exponent + B .exponent) (product 6 (A .matrix) (B .matrix))
+
+-- the identity, at exponent 0
+abbrev pub identity : Operator
+identity = operator 0 δ
+
+-- the inverse of an orthogonal operator: its transpose, at the same exponent
+abbrev pub inverse : Operator → Operator
+inverse A = operator (A .exponent) (transpose (A .matrix))
 
 -- the two stand for the same matrix
 pub record SameOperator (A B : Operator) : Type 0 where

@@ -37,12 +37,17 @@ pub fn show_bytes(word: &[u8], bytes: &[u8]) {
     }
 }
 
-// A number after a word, or the refusal's, and the end of the line.
-pub fn end_line(word: &[u8], answer: Answer) {
+// A number after a word, or the refusal's.
+pub fn show_answer(word: &[u8], answer: Answer) {
     match answer {
         Answer::Count(n) => show_number(word, n),
         Answer::Refused(n) => show_number(b": refused ", n),
     }
+}
+
+// The same, and the end of the line.
+pub fn end_line(word: &[u8], answer: Answer) {
+    show_answer(word, answer);
     show(b"\n");
 }
 

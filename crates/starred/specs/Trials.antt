@@ -1,6 +1,6 @@
 -- Document 01's trial cuts that are marked to be proved of the definitions, with the first byte of document 02, P4, the last byte of P2 and the
--- L of P3; these requests' own cases, the orders of P1, the walks of P6, the bundles of P7 and the two kinds of file of P10: a table of cases, and
--- the test that each passes.
+-- L of P3; these requests' own cases, the orders of P1, the walks of P6, the bundles of P7, the two kinds of file of P10 and the counts of P11: a
+-- table of cases, and the test that each passes.
 use mathlib.Core.Bool.{Bool, true, false, _&&_}
 use mathlib.Core.List.{List, [], _∷_, _++_}
 use Prim.Native.Nat.{ℕ, _+_, _-_, _^_}
@@ -9,6 +9,7 @@ use lib.IntN.{pos, negsuc, _*ℤ_}
 use lib.ListN.{take, replicate}
 use Rattle.matrix.specs.List.{sameList}
 use Rattle.matrix.specs.Matrix.{Matrix, δ, replaced, listed}
+use Rattle.matrix.specs.Operator.{Operator, timesOperator, inverse, negative}
 use Rattle.matrix.specs.Array.{beforeOdd}
 use Rattle.file.specs.declared.Answer.{Answer}
 use Rattle.file.specs.declared.Answer.the-variants.{Count, Refused}
@@ -17,6 +18,7 @@ use Rattle.letter.specs.declared.Gate.{Gate}
 use Rattle.letter.specs.declared.Gate.the-variants.{H1, Cz, Cs}
 use Rattle.gate.specs.Product.{productOf}
 use Rattle.gate.specs.Reading.{productFile}
+use Rattle.count.specs.Count.{countOf, distance}
 use Rattle.acceptance.specs.Acceptance.{fileRefusal}
 use Rattle.acceptance.specs.Cutting.{fileLoose}
 use Rattle.operator.specs.Promise.{fileSheet}
@@ -49,6 +51,10 @@ pub data Trial : Type 0 where
   bundles : List ℕ → List ℕ → Trial
   -- these bytes, read as sheets end to end, earn this refusal
   sheetsRefused : List ℕ → ℕ → Trial
+  -- these two operators have these counts, and their product has this one
+  counted : Operator → Operator → (first second product : ℕ) → Trial
+  -- the second operator is so far from the first
+  apart : Operator → Operator → ℕ → Trial
 
 -- whether an answer is this count, or figure
 abbrev counts : Answer → ℕ → Bool
@@ -67,6 +73,8 @@ passes (takes b n s) = eqb (bundleRefusal b n) 0 && sameList (sheetIn b n) s
 passes (bundleRefused b n r) = eqb (bundleRefusal b n) r
 passes (bundles s b) = eqb (sheetsRefusal s) 0 && sameList (sheetsBundle s) b
 passes (sheetsRefused s r) = eqb (sheetsRefusal s) r
+passes (counted A B a b c) = eqb (countOf A) a && (eqb (countOf B) b && eqb (countOf (timesOperator A B)) c)
+passes (apart A B d) = eqb (distance A B) d
 
 -- a file of either kind; the exponent may be one that its kind cannot carry
 abbrev file : Kind → ℕ → Matrix → List ℕ
@@ -76,8 +84,15 @@ file t k M = fileAs t k (listed M)
 abbrev times : ℕ → Matrix
 times n r c = pos n *ℤ δ r c
 
-abbrev chc : Matrix
-chc = productOf (Cs ∷ H1 ∷ Cs ∷ []) .matrix
+-- the operators of `C`, of `CHC` and of `Z`
+abbrev cs : Operator
+cs = productOf (Cs ∷ [])
+
+abbrev chc : Operator
+chc = productOf (Cs ∷ H1 ∷ Cs ∷ [])
+
+abbrev cz : Operator
+cz = productOf (Cz ∷ [])
 
 abbrev pub allPass : List Trial → Bool
 allPass [] = true
@@ -112,19 +127,21 @@ tooLong = 255 ∷ replicate 198 1
 -- the walks: the identity, twice the identity, and that with 1 as its last entry and with −1 in row 2; three sheets as a bundle, each of them
 -- taken, and number 3; the empty bundle; no bytes, one, and a trailer for one sheet too many; offsets that leave a gap, a first byte of 63, a sheet
 -- that reaches into the trailer, also where there is no such sheet; 199 bytes, which are handed back and earn 10; no sheets and three, written; a
--- sheet cut short, and a first byte for 69
+-- sheet cut short, and a first byte for 69; products whose count is the sum of those of their factors, lower by two, and lower by the whole sum: `CH` and
+-- `C`, `CHC` and `C`, `CHC` and its inverse; `Z` on either side of `CHC`; the negative of `C`; distances: of `C` and `CHC`, no more than their counts
+-- differ by, of `C` and `CZ`, which a Clifford on the right takes to one another, and of `Z`, a Clifford, and `CHC`
 unfoldable pub trials : List Trial
 trials =
     cuts (file shortFile 0 δ) identitySheet 0 ∷
     cuts (file shortFile 2 (times 2)) identitySheet 0 ∷
-    cuts (file shortFile 4 (λ r c. pos 2 *ℤ chc r c)) chcSheet 1 ∷
+    cuts (file shortFile 4 (λ r c. pos 2 *ℤ chc .matrix r c)) chcSheet 1 ∷
     cuts (file longFile 0 δ) identitySheet 0 ∷
     cuts (file longFile 2 (times 2)) identitySheet 0 ∷
-    cuts (file longFile 4 (λ r c. pos 2 *ℤ chc r c)) chcSheet 1 ∷
+    cuts (file longFile 4 (λ r c. pos 2 *ℤ chc .matrix r c)) chcSheet 1 ∷
     cuts (file shortFile 28 (times 16384)) identitySheet 0 ∷
     cuts (file longFile 28 (times 16384)) identitySheet 0 ∷
     fileRefused (file shortFile 29 (times 16384)) 2 ∷
-    cuts (file longFile 29 (λ r c. pos 16384 *ℤ productOf (Cs ∷ []) .matrix r c)) csSheet 0 ∷
+    cuts (file longFile 29 (λ r c. pos 16384 *ℤ cs .matrix r c)) csSheet 0 ∷
     cuts (file longFile 60 (times (2 ^ 30))) identitySheet 0 ∷
     fileRefused (file longFile 61 (times (2 ^ 30))) 2 ∷
     fileRefused (file longFile 60 (replaced 5 (λ c. pos (2 ^ 30 + 1) *ℤ δ 5 c) (times (2 ^ 30)))) 3 ∷
@@ -185,4 +202,13 @@ trials =
     bundles threeSheets threeBundled ∷
     sheetsRefused (threeSheets ++ 64 ∷ 1 ∷ 2 ∷ 3 ∷ 4 ∷ 5 ∷ 6 ∷ []) 21 ∷
     sheetsRefused (125 ∷ replicate 68 1) 21 ∷
+    counted (productOf (Cs ∷ H1 ∷ [])) cs 1 1 2 ∷
+    counted chc cs 2 1 1 ∷
+    counted chc (inverse chc) 2 2 0 ∷
+    counted cz chc 0 2 2 ∷
+    counted chc cz 2 0 2 ∷
+    counted chc (negative cs) 2 1 1 ∷
+    apart cs chc 1 ∷
+    apart cs (timesOperator cs cz) 0 ∷
+    apart cz chc 2 ∷
     []

@@ -10,6 +10,7 @@ mod damages;
 mod gates;
 mod judge;
 mod kinds;
+mod laws;
 mod lent;
 mod lists;
 mod negatives;
@@ -31,6 +32,7 @@ fn main() -> ExitCode {
     cliffords::run(&mut judge);
     negatives::run(&mut judge);
     kinds::run(&mut judge);
+    laws::run(&mut judge);
     operators::run(&mut judge);
     unitaries::run(&mut judge);
     lists::run(&mut judge);

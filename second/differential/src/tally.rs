@@ -1,10 +1,11 @@
 //! How often each call ran, each refusal of each call came, and each count, or figure of states, each kind and
 //! exponent of operator file, each L, each sign or power of ω of a gate list, each number of Z in a stretch of one, each last byte of a
 //! sheet, each number of sheets in a bundle, each length and position of a part of one, each statement of a
-//! text, and each number of few or of most statements was seen.
+//! text, and each number of few or of most statements was seen, and how often each law of the count was looked at.
 
 mod files;
 mod gates;
+mod laws;
 mod texts;
 
 use std::fmt::Display;
@@ -16,10 +17,12 @@ use plain::sheet::MIN_SHEET;
 use samples::{LETTERS, MAX_UNITARY_COUNT, STATEMENTS};
 
 use crate::call::{Answer, Call, CALLS};
+use crate::laws::Law;
 use crate::unitaries::UNITARY_LOOSE;
 
 use files::{Files, Use};
 use gates::{Beside, Gates, POWER, SIGN};
+use laws::Laws;
 use texts::Texts;
 
 const REFUSALS: usize = 256;
@@ -91,6 +94,7 @@ pub struct Tally {
     part_lengths: [u64; PART_LENGTHS],
     positions: [u64; POSITIONS.len()],
     texts: [Texts; CALLS.len()],
+    laws: Laws,
 }
 
 impl Tally {
@@ -107,6 +111,7 @@ impl Tally {
             part_lengths: [0; PART_LENGTHS],
             positions: [0; POSITIONS.len()],
             texts: CALLS.map(|_| Texts::new()),
+            laws: Laws::new(),
         }
     }
 
@@ -159,11 +164,22 @@ impl Tally {
         self.texts[call as usize].add(text);
     }
 
+    /// Counts a law that was looked at.
+    pub fn add_law(&mut self, law: Law) {
+        self.laws.add(law);
+    }
+
+    /// Counts a product of operators by how far its count is below the sum of theirs.
+    pub fn add_product(&mut self, below: u8) {
+        self.laws.add_product(below);
+    }
+
     /// Prints a line for each call, one for all refusals and one for those of each call, one for the
     /// counts of each call that answers them, two or three for the files of each call that reads or writes
     /// them, one for the L of each call that cuts, two for each call that
     /// writes gate lists, one for the last bytes of each call with sheets, one for the numbers of sheets of
-    /// each call with bundles, two for the parts, and three for each call with texts.
+    /// each call with bundles, two for the parts, three for each call with texts, one for each law, and one for
+    /// the products.
     pub fn print(&self) {
         for (call, inputs) in CALLS.iter().zip(self.inputs) {
             println!("{}: {inputs} inputs", call.name());
@@ -206,6 +222,7 @@ impl Tally {
         for (call, known) in TEXT_CALLS {
             self.texts[call as usize].print(call, known);
         }
+        self.laws.print();
     }
 
     /// What was seen too seldom.
@@ -258,6 +275,7 @@ impl Tally {
         for (call, known) in TEXT_CALLS {
             gaps.extend(self.texts[call as usize].gaps(call, known));
         }
+        gaps.extend(self.laws.gaps());
         gaps
     }
 

@@ -96,12 +96,22 @@ impl Operator {
     pub fn is_proper(&self) -> bool {
         matrix::has_positive_determinant(&self.matrix, self.exponent)
     }
+
+    /// Whether a proper orthogonal operator is a Clifford: at exponent 0, with one entry of +1 or -1 in each row
+    /// and column.
+    pub fn is_clifford(&self) -> bool {
+        let units =
+            |row: &[i64; matrix::SIZE]| row.iter().map(|entry| entry.abs()).sum::<i64>() == 1;
+        let columns = matrix::transpose(&self.matrix);
+        self.exponent == 0 && self.matrix.iter().all(units) && columns.iter().all(units)
+    }
 }
 
 #[cfg(test)]
 mod tests {
     use super::*;
     use crate::file::MAX_EXPONENT;
+    use crate::gate::{clifford, CS};
 
     #[test]
     fn reading_brings_every_exponent_to_the_least() {
@@ -119,6 +129,24 @@ mod tests {
                 assert_eq!(Operator::read(&kind.file(&doubled)), read);
             }
         }
+    }
+
+    #[test]
+    fn a_clifford_is_a_signed_permutation_at_exponent_0() {
+        assert!(Operator::IDENTITY.is_clifford());
+        assert!(Operator::IDENTITY.negative().is_clifford());
+        assert!(clifford([-3, 1, 2, 5, -6, 4]).is_clifford());
+        let doubled = Operator {
+            matrix: matrix::scale(&IDENTITY, 2),
+            exponent: 2,
+        };
+        assert!(!doubled.is_clifford());
+        assert!(doubled.reduced().is_clifford());
+        assert!(!CS.is_clifford());
+        assert!(!with_entry(1, 0).is_clifford());
+        let mut twice = Operator::IDENTITY;
+        twice.matrix[1] = twice.matrix[0];
+        assert!(!twice.is_clifford() && !twice.inverse().is_clifford());
     }
 
     /// The lowest and the highest that the kinds hold, and those around the largest that is not too large.

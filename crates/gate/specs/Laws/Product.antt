@@ -18,8 +18,9 @@ use Rattle.matrix.specs.Laws.Test.{left, right, T-true, true-T}
 use Rattle.matrix.specs.Laws.Integer.{times-positive, equals-eq, *ℤ-unit-l}
 use Rattle.matrix.specs.Laws.Matrix.{orthogonal-δ, product-cong, product-id-l, same-refl}
 use Rattle.matrix.specs.Laws.Determinant.{det-cong, det-combined, det-identity, combined-cong, combined-product}
-use Rattle.matrix.specs.Laws.Operator.{same-operator-refl, same-operator-sym, same-operator-trans, same-operator-of, times-same, times-assoc, times-orthogonal, same-orthogonal, same-proper}
+use Rattle.matrix.specs.Laws.Operator.{same-operator-refl, same-operator-sym, same-operator-trans, times-same, times-assoc, times-orthogonal, same-orthogonal, same-proper}
 use Rattle.matrix.specs.Laws.Array.{everywhere-sound}
+use Rattle.matrix.specs.Laws.Inverse.{identity-times}
 use Rattle.clifford.specs.Columns.{columnsMatrix, arePermutation}
 use Rattle.clifford.specs.Laws.Columns.{permutation-sound, columns-orthogonal}
 use Rattle.residue.specs.Laws.Generator.{generator-orthogonal, generator-product, turned-det}
@@ -188,6 +189,6 @@ multiplied-proper {A} {w} m = same-proper (m .same) (product-proper w)
 
 pub product-append : (u v : List Gate) → SameOperator (productOf (u ++ v)) (timesOperator (productOf u) (productOf v))
 unfolding productOf
-product-append [] v = same-operator-sym (same-operator-of _ _ (omega arith) (product-id-l 6 (productOf v .matrix)))
+product-append [] v = same-operator-sym (identity-times (productOf v))
 product-append (g ∷ u) v =
     same-operator-trans (times-same (same-operator-refl (image g)) (product-append u v)) (same-operator-sym (times-assoc (image g) (productOf u) (productOf v)))

@@ -18,6 +18,7 @@ use Rattle.matrix.specs.Array.{Least, leastForm}
 use Rattle.matrix.specs.Laws.Matrix.{same-refl, product-cong, product-assoc, product-id-r}
 use Rattle.matrix.specs.Laws.Operator.{same-operator-refl, same-operator-sym, same-operator-trans, same-operator-of, times-same, times-orthogonal, same-orthogonal}
 use Rattle.matrix.specs.Laws.Array.{operatorOf, entry-listed, listed-is, listed-cong, listed-same, length-listed, same-least-form}
+use Rattle.matrix.specs.Laws.Inverse.{times-identity}
 use Rattle.matrix.specs.Laws.Right.{least-right}
 use Rattle.file.specs.File.{largestExponent, noOperator}
 use Rattle.clifford.specs.Columns.{columnsMatrix, arePermutation}
@@ -43,7 +44,7 @@ pub append-gate : (w : List Gate) (g : Gate) → SameOperator (productOf (w ++ g
 unfolding productOf
 append-gate w g =
     same-operator-trans (product-append w (g ∷ []))
-    (times-same (same-operator-refl (productOf w)) (same-operator-of (productOf (g ∷ [])) (image g) (omega arith) (product-id-r 6 (image g .matrix))))
+    (times-same (same-operator-refl (productOf w)) (times-identity (image g)))
 
 pub multiplied-of : (w : List Gate) (g : Gate) → multiplied (leastOf w .exponent) (leastOf w .matrix) g ≡ leastOf (w ++ g ∷ [])
 unfolding multiplied leastOf

@@ -1,22 +1,23 @@
 -- The gate list of a normal form multiplies to it times its sign, has a letter C for each of its generators, and in each stretch the fewest letters Z.
-use mathlib.Core.Path.{_≡_, refl, sym, _∙_}
+use mathlib.Core.Path.{_≡_, refl, sym, _∙_, subst}
 use mathlib.Core.Bool.{Bool, true, _&&_}
 use mathlib.Core.Logic.{inl}
 use mathlib.Core.List.{List, [], _∷_, _++_}
-use Prim.Native.Nat.{ℕ, zero, suc, _+_, _*_, _%_, _<_, _≤_}
+use Prim.Native.Nat.{ℕ, zero, suc, _+_, _*_, _%_, _≤_}
 use native.Mathlib.Omega.{arith}
 use lib.IntN.{ℤ, negsuc, _*ℤ_}
 use lib.ListN.{length, length-append}
 use Rattle.matrix.specs.Range.{sum, everyFrom, every}
 use Rattle.matrix.specs.Integer.{equals}
-use Rattle.matrix.specs.Matrix.{Matrix, Same, δ, product, entry}
-use Rattle.matrix.specs.Operator.{Operator, operator, timesOperator, SameOperator, SameUpToSign, Orthogonal, Proper, LeastExponent}
+use Rattle.matrix.specs.Matrix.{Matrix, Same, δ, product, entry, listed}
+use Rattle.matrix.specs.Operator.{Operator, operator, timesOperator, identity, SameOperator, SameUpToSign, Orthogonal, Proper, LeastExponent}
 use Rattle.matrix.specs.Array.{everywhere}
 use Rattle.matrix.specs.Laws.Test.{left, right, T-true}
 use Rattle.matrix.specs.Laws.Integer.{equals-eq}
-use Rattle.matrix.specs.Laws.Matrix.{product-id-l, product-id-r, product-cong, same-refl}
-use Rattle.matrix.specs.Laws.Operator.{same-operator-refl, same-operator-sym, same-operator-trans, same-operator-of, times-same, times-assoc, same-proper, least-same}
-use Rattle.matrix.specs.Laws.Array.{everywhere-sound}
+use Rattle.matrix.specs.Laws.Matrix.{product-id-l, product-cong, same-refl}
+use Rattle.matrix.specs.Laws.Operator.{same-operator-refl, same-operator-sym, same-operator-trans, same-operator-of, times-same, times-assoc, same-orthogonal, same-proper, least-same}
+use Rattle.matrix.specs.Laws.Array.{everywhere-sound, listed-same}
+use Rattle.matrix.specs.Laws.Inverse.{times-identity}
 use Rattle.clifford.specs.Columns.{columnsMatrix, columnBytes, timesSign, arePermutation, isEven}
 use Rattle.clifford.specs.Laws.Columns.{permutation-complete, matrix-permutation, matrix-columns}
 use Rattle.clifford.specs.Laws.Sign.{sign-same, sign-none, times-sign-r, times-signs, sign-least, sign-of-both, sign-follows, up-trans}
@@ -221,10 +222,10 @@ double-z : everywhere (λ r c. equals (productOf (Cz ∷ Cz ∷ []) .matrix r c)
 unfolding everyFrom productOf image sum δ
 double-z = refl
 
-minus-one : SameOperator (productOf (Cz ∷ Cz ∷ [])) (timesSign 1 (operator 0 δ))
+minus-one : SameOperator (productOf (Cz ∷ Cz ∷ [])) (timesSign 1 identity)
 unfolding productOf image
 minus-one =
-    same-operator-of (productOf (Cz ∷ Cz ∷ [])) (timesSign 1 (operator 0 δ)) refl
+    same-operator-of (productOf (Cz ∷ Cz ∷ [])) (timesSign 1 identity) refl
     (λ r c hr hc. equals-eq _ _ (everywhere-sound (λ r c. equals (productOf (Cz ∷ Cz ∷ []) .matrix r c) (negsuc 0 *ℤ δ r c)) double-z r c hr hc))
 
 -- a list for the negative, with ZZ behind it
@@ -232,14 +233,21 @@ pub turned-list : {A : Operator} {w : List Gate} → MultipliesTo w (timesSign 1
 turned-list {A} {w} h = record {
   same = same-operator-trans (product-append w (Cz ∷ Cz ∷ []))
       (same-operator-trans (times-same (h .same) minus-one)
-      (same-operator-trans (times-signs 1 1 A (operator 0 δ))
-      (same-operator-trans (sign-none (timesOperator A (operator 0 δ))) (same-operator-of (timesOperator A (operator 0 δ)) A (omega arith) (product-id-r 6 (A .matrix))))));
+      (same-operator-trans (times-signs 1 1 A identity)
+      (same-operator-trans (sign-none (timesOperator A identity)) (times-identity A))));
 }
 
-pub some-list : (k : ℕ) (m : List ℤ) → Orthogonal (operator k (entry m)) → Proper (operator k (entry m)) → (w : List Gate) × MultipliesTo w (operator k (entry m))
-some-list k m o p = go (signOfList k m) (omega arith) (list-of k m o p .multiplies)
+-- with as many letters C as the least exponent says
+pub some-list : {A : Operator} → Orthogonal A → Proper A → (w : List Gate) × MultipliesTo w A × LeastExponent A (csGates w)
+some-list {A} o p =
+    let s = listed-same A in
+    let k = A .exponent in
+    let m = listed (A .matrix) in
+    go (listOf k m) (signOfList k m) (same-list-for (same-operator-sym s) (list-of k m (same-orthogonal s o) (same-proper s p)))
   where
-    go : (s : ℕ) → s < 2 → MultipliesTo (listOf k m) (timesSign s (operator k (entry m))) → (w : List Gate) × MultipliesTo w (operator k (entry m))
-    go zero l h = (listOf k m, record { same = same-operator-trans (h .same) (sign-none (operator k (entry m))) })
-    go (suc zero) l h = (listOf k m ++ Cz ∷ Cz ∷ [], turned-list h)
-    go (suc (suc s)) l h = absurd (omega arith)
+    go : {t : ℕ} (w : List Gate) (s : ℕ) → ListFor A t w s → (w : List Gate) × MultipliesTo w A × LeastExponent A (csGates w)
+    go w zero l = (w, record { same = same-operator-trans (l .multiplies .same) (sign-none A) }, subst (LeastExponent A) (sym (l .exact)) (l .least))
+    go w (suc zero) l =
+        let e : csGates (w ++ Cz ∷ Cz ∷ []) ≡ csGates w = number-append isCs w (Cz ∷ Cz ∷ []) ∙ omega arith in
+        (w ++ Cz ∷ Cz ∷ [], turned-list (l .multiplies), subst (LeastExponent A) (sym (e ∙ l .exact)) (l .least))
+    go w (suc (suc s)) l = let h = l .small in absurd (omega arith)

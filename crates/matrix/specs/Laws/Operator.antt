@@ -252,6 +252,13 @@ not-zero {A} o z =
     ∙ sum-cong (λ c hc. ap (λ x. x *ℤ A .matrix 0 c) (z 0 c (omega arith) hc) ∙ zero-*ℤ (A .matrix 0 c)) ∙ sum-zero 6 in
     pos-nz (2 ^ A .exponent) (pow-pos (A .exponent)) e
 
+-- an orthogonal matrix has exponents that differ by even numbers
+pub even-difference : {A B : Operator} → Orthogonal A → SameOperator A B → B .exponent ≤ A .exponent → (d : ℕ) × (A .exponent ≡ B .exponent + (d + d))
+even-difference {A} {B} o s l = elim (apart (A .exponent) (B .exponent) l) [
+  | inl x ↦ x
+  | inr (d, e) ↦ absurd (not-zero o (λ i j hi hj. odd-apart s d e i j hi hj .0))
+]
+
 -- an operator is not its own negative
 pub not-negative : {A : Operator} → Orthogonal A → SameOperator A (negative A) → ⊥
 not-negative {A} o h =
@@ -292,6 +299,15 @@ least-same s p = record {
   attained = (p .attained .0, same-operator-trans (same-operator-sym s) (p .attained .1));
   smallest = λ C h. p .smallest C (same-operator-trans s h);
 }
+
+-- the least exponent of a product of orthogonal operators is the sum of theirs, less an even number
+pub least-product : {A B : Operator} {a b c : ℕ} → Orthogonal A → Orthogonal B → LeastExponent A a → LeastExponent B b → LeastExponent (timesOperator A B) c
+    → (d : ℕ) × (a + b ≡ c + (d + d))
+least-product {A} {B} {a} {b} {c} o p h j k =
+    let (M, s) = h .attained in
+    let (N, t) = j .attained in
+    let u = times-same s t in
+    even-difference (times-orthogonal (same-orthogonal s o) (same-orthogonal t p)) (same-operator-trans (same-operator-sym u) (k .attained .1)) (k .smallest (timesOperator (operator a M) (operator b N)) u)
 
 -- two reduced pairs of one matrix are equal
 pub reduced-unique : {A B : Operator} → Orthogonal A → Orthogonal B → Reduced A → Reduced B → SameOperator A B

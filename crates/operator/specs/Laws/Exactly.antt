@@ -7,7 +7,7 @@ use Prim.Native.Nat.{ℕ}
 use native.Mathlib.Omega.{arith}
 use Rattle.matrix.specs.Operator.{Operator}
 use Rattle.matrix.specs.Array.{isWithin, isOrthogonal}
-use Rattle.file.specs.File.{fileExponent, fileMatrix, fileOperator, InForm}
+use Rattle.file.specs.File.{fileOperator, InForm}
 use Rattle.letter.specs.declared.Gate.{Gate}
 use Rattle.gate.specs.Product.{MultipliesTo}
 use Rattle.gate.specs.Laws.Product.{multiplied-orthogonal, multiplied-proper}
@@ -18,7 +18,9 @@ use Rattle.acceptance.specs.Laws.Acceptance.{accepted, entries-complete, in-for
 
 pub accepted-multiplies : (b : List ℕ) → fileRefusal b ≡ 0 → (w : List Gate) × MultipliesTo w (fileOperator b)
 accepted-multiplies b z =
-    let a = accepted b z .entries in some-list (fileExponent b) (fileMatrix b) (a .orthogonal) (a .proper)
+    let a = accepted b z .entries in
+    let (w, m, n) = some-list (a .orthogonal) (a .proper) in
+    (w, m)
 
 pub multiplies-accepted : (b : List ℕ) → InForm b → (w : List Gate) → MultipliesTo w (fileOperator b) → fileRefusal b ≡ 0
 multiplies-accepted b f w m =

@@ -4,10 +4,9 @@ use mathlib.Core.List.{List, [], _∷_, _++_}
 use Prim.Native.Nat.{ℕ}
 use native.Mathlib.Omega.{arith}
 use lib.ListN.{length, drop}
-use Rattle.matrix.specs.Matrix.{δ}
-use Rattle.matrix.specs.Operator.{Operator, operator, timesOperator, SameOperator}
-use Rattle.matrix.specs.Laws.Matrix.{product-id-l, product-id-r}
-use Rattle.matrix.specs.Laws.Operator.{same-operator-refl, same-operator-sym, same-operator-trans, same-operator-of, times-same, times-assoc}
+use Rattle.matrix.specs.Operator.{Operator, timesOperator, identity, SameOperator}
+use Rattle.matrix.specs.Laws.Operator.{same-operator-refl, same-operator-sym, same-operator-trans, times-same, times-assoc}
+use Rattle.matrix.specs.Laws.Inverse.{identity-times, times-identity}
 use Rattle.letter.specs.declared.Gate.{Gate}
 use Rattle.letter.specs.declared.Letter.{Letter}
 use Rattle.letter.specs.declared.Letter.the-variants.{Is, Unknown}
@@ -24,7 +23,7 @@ acted-product : (ls : List (List ℕ)) (w : List Gate) → statements ls ≡ gat
 unfolding statements productOf
 acted-product [] w e A =
     let s : w ≡ [] = cc in
-    subst (λ v. SameOperator A (timesOperator (productOf v) A)) (sym s) (same-operator-sym (same-operator-of (timesOperator (operator 0 δ) A) A (omega arith) (product-id-l 6 (A .matrix))))
+    subst (λ v. SameOperator A (timesOperator (productOf v) A)) (sym s) (same-operator-sym (identity-times A))
 acted-product (l ∷ ls) w e A = go (statementOf l) (statements ls) (acted-product ls) e
   where
     go : (x : Letter) (r : Reading) → ((v : List Gate) → r ≡ gates v → (B : Operator) → SameOperator (acted B ls) (timesOperator (productOf v) B)) → earlier x r ≡ gates w → SameOperator (acted (acting x A) ls) (timesOperator (productOf w) A)
@@ -42,10 +41,10 @@ pub text-means : (bs : List ℕ) (w : List Gate) → readText bs ≡ gates w →
 unfolding readText meaning versionLine includeLine registerLine
 text-means bs w e =
     let a = after-lines firstLines (lines bs) w e in
-    let s : acted (operator 0 δ) (drop (length firstLines) (lines bs)) ≡ acted (operator 0 δ) (a .rest) = ap (λ ls. acted (operator 0 δ) (drop (length firstLines) ls)) (a .starts) in
+    let s : acted identity (drop (length firstLines) (lines bs)) ≡ acted identity (a .rest) = ap (λ ls. acted identity (drop (length firstLines) ls)) (a .starts) in
     record {
       same = same-operator-sym (subst (λ X. SameOperator X (productOf w)) (sym s)
-          (same-operator-trans (acted-product (a .rest) w (a .reads) (operator 0 δ)) (same-operator-of (timesOperator (productOf w) (operator 0 δ)) (productOf w) (omega arith) (product-id-r 6 (productOf w .matrix)))));
+          (same-operator-trans (acted-product (a .rest) w (a .reads) identity) (times-identity (productOf w))));
     }
 
 -- the text of a list means what the list multiplies to

@@ -8,12 +8,12 @@ use native.Mathlib.Omega.{arith}
 use lib.Dec.{eqb}
 use lib.IntN.{pos, negsuc}
 use Rattle.matrix.specs.Integer.{equals}
-use Rattle.matrix.specs.Matrix.{δ, scaled, listed}
-use Rattle.matrix.specs.Operator.{Operator, operator, timesOperator, SameUpToSign, negative, Orthogonal, Proper, LeastExponent}
+use Rattle.matrix.specs.Matrix.{δ, scaled}
+use Rattle.matrix.specs.Operator.{Operator, operator, timesOperator, SameUpToSign, Orthogonal, Proper, LeastExponent}
 use Rattle.matrix.specs.Laws.Integer.{equals-eq, equals-yes}
 use Rattle.matrix.specs.Laws.Range.{First, first-found}
 use Rattle.matrix.specs.Laws.Operator.{same-operator-refl, same-operator-sym, same-operator-trans, times-same, same-orthogonal, same-proper}
-use Rattle.matrix.specs.Laws.Array.{everywhere-sound, everywhere-complete, listed-same}
+use Rattle.matrix.specs.Laws.Array.{everywhere-sound, everywhere-complete}
 use Rattle.clifford.specs.Columns.{timesSign}
 use Rattle.clifford.specs.Laws.Sign.{sign-none, sign-of-both, up-to-sign, up-sym, up-trans}
 use Rattle.sheet_bytes.specs.Bytes.{sheetOf, sheetSign}
@@ -144,9 +144,7 @@ module _ (U : Quotient) (o : Unitary U) where
   -- "no unitary of this form lacks one"
   pub some-list : (w : List Gate) × (a : ℕ) × (a < 8) × Gives w a U
   some-list =
-      let A = formOf U in
       let f = form U o in
-      let same = listed-same A in
-      let (w, m) = gate-list.some-list (A .exponent) (listed (A .matrix)) (same-orthogonal same (f .orthogonal)) (same-proper same (f .proper)) in
-      let (a, l, g) = given w (inl (same-operator-trans (m .same) (same-operator-sym same))) in
+      let (w, m, n) = gate-list.some-list (f .orthogonal) (f .proper) in
+      let (a, l, g) = given w (inl (m .same)) in
       (w, a, l, g)

@@ -98,7 +98,5 @@ form-proper U o t h = ⊎-elim (λ p. p) (λ p. absurd (reflected p)) (proper-or
   where
     reflected : Proper (mirrored (negsuc 0) (formAt t U)) → ⊥
     reflected p =
-        let A = mirrored (negsuc 0) (formAt t U) in
-        let s = listed-same A in
-        let (w, l) = some-list (A .exponent) (listed (A .matrix)) (same-orthogonal s (mirrored-orthogonal (formAt t U) (form-orthogonal U o t h))) (same-proper s p) in
-        not-reflected U o t h w (same-operator-trans (l .same) (same-operator-sym s))
+        let (w, m, n) = some-list (mirrored-orthogonal (formAt t U) (form-orthogonal U o t h)) p in
+        not-reflected U o t h w (m .same)
