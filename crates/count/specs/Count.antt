@@ -1,5 +1,5 @@
--- What may be reasoned with (document 02, P11): the count of an operator, and its laws "over all proper orthogonal operators, without the
--- limit". Here stand the words and the statements; `group-laws`, `count-laws` and `distance-laws` of `Laws/` prove them.
+-- What users may reason with (document 02, P11): the count of an operator, and its laws "over all proper orthogonal operators, without the
+-- limit". This page has the words and the laws; that they hold are the theorems `group-laws`, `count-laws` and `distance-laws` of `Laws/`.
 use mathlib.Core.Logic.{_↔_}
 use mathlib.Core.List.{List}
 use mathlib.Core.Path.{_≡_}
@@ -14,10 +14,12 @@ use Rattle.gate.specs.Product.{MultipliesTo, csGates}
 
 -- ---- the words
 
--- An `Operator` is a matrix of 36 whole numbers with an exponent k, of any size, and stands for the matrix divided by root two to the power k.
+-- `Operator`: a matrix of 36 whole numbers of any size with any exponent k; it stands for the matrix divided by root two to the power k.
 -- `SameOperator A B`: the two stand for the same matrix, sign included, whatever their exponents are.
+-- `inverse A`: the transpose of A, with its exponent.
+-- `Clifford C`: C has exponent 0, one entry of +1 or −1 in each row and column, and a positive determinant.
 
--- of which operators the laws speak: those that are orthogonal and have a positive determinant, which no file need have room for
+-- the operators of which the laws speak: their rows are orthogonal, and the determinant is positive
 pub record ProperOrthogonal (A : Operator) : Type 0 where
   pub orthogonal : Orthogonal A
   pub proper : Proper A
@@ -27,24 +29,21 @@ infixl 70 _·_
 abbrev pub _·_ : Operator → Operator → Operator
 A · B = timesOperator A B
 
--- The inverse, `inverse A`: the transpose, with the same exponent.
-
--- A `Clifford` has exponent 0, one entry of +1 or −1 in each row and column, and a positive determinant. With a larger exponent an operator may
--- still stand for the matrix of one
+-- the matrix is that of a Clifford, also where it is written with a larger exponent, as twice the identity with k 2
 abbrev pub StandsForClifford : Operator → Type 0
 StandsForClifford A = (C : Operator) × Clifford C × SameOperator A C
 
--- the count t: how many generators cutting takes from the operator
+-- "The count t is the number of generators taken", by document 01's rule of cutting
 abbrev pub countOf : Operator → ℕ
 countOf A = length (taken (A .exponent) (listed (A .matrix)))
 
--- how far B is from A: the count of A⁻¹ B, by which A has to be multiplied to get B
+-- how far B is from A: the count of A⁻¹ B, the operator by which A is multiplied to give B
 abbrev pub distance : Operator → Operator → ℕ
 distance A B = countOf (inverse A · B)
 
 -- ---- the laws
 
--- what the words mean, and that the laws can be applied to what they speak of
+-- what an inverse is, and that the laws can be applied to inverses, products and Cliffords again
 pub record GroupLaws : Type 0 where
   pub inverse-right : {A : Operator} → ProperOrthogonal A → SameOperator (A · inverse A) identity
   pub inverse-left : {A : Operator} → ProperOrthogonal A → SameOperator (inverse A · A) identity
@@ -56,7 +55,7 @@ pub record GroupLaws : Type 0 where
   pub clifford-proper : {C : Operator} → Clifford C → ProperOrthogonal C
 
 pub record CountLaws : Type 0 where
-  -- it is the least exponent, and so the count that every call answers of the operator
+  -- it is the least exponent, and no other number is: what a call answers is promised to be that, too
   pub least : {A : Operator} → ProperOrthogonal A → LeastExponent A (countOf A)
   pub only : {A : Operator} {l : ℕ} → ProperOrthogonal A → LeastExponent A l → countOf A ≡ l
   -- it depends on the matrix that the operator stands for, and not on the exponent with which that is written
@@ -77,7 +76,7 @@ pub record CountLaws : Type 0 where
   pub negative : {A : Operator} → ProperOrthogonal A → countOf (negative A) ≡ countOf A
 
 pub record DistanceLaws : Type 0 where
-  -- the count is the distance from the Cliffords, from each of them
+  -- the count is the distance from the Cliffords, whichever is taken
   pub from-clifford : {A C : Operator} → ProperOrthogonal A → Clifford C → distance C A ≡ countOf A
   -- |t(A) − t(B)| is at most t(A⁻¹ B)
   pub difference : {A B : Operator} → ProperOrthogonal A → ProperOrthogonal B → (countOf A ≤ countOf B + distance A B) × (countOf B ≤ countOf A + distance A B)

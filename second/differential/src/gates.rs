@@ -43,10 +43,14 @@ fn check_letters(list: &[u8], count: u64) -> Result<(), &'static str> {
     let known = list.iter().all(|&letter| image(letter).is_some());
     demand(known, "a byte of the gate list is no letter")?;
     let count = count as usize;
-    let cs_gates = list.iter().filter(|&&letter| letter == b'C').count();
-    demand(cs_gates == count, "the letters C are not the count")?;
+    demand(cs_gates(list) == count, "the letters C are not the count")?;
     let short = list.len() <= LETTERS_PER_COUNT * (count + 1);
     demand(short, "the gate list has too many letters")
+}
+
+/// The number of a list's letters C.
+pub fn cs_gates(list: &[u8]) -> usize {
+    list.iter().filter(|&&letter| letter == b'C').count()
 }
 
 fn check_stretches(list: &[u8]) -> Result<(), &'static str> {

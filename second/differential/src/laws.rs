@@ -1,12 +1,13 @@
 //! The laws of the count, by document 02, P11. Random operators are inverted and multiplied in plain Rust; of
 //! each the library answers the count, and the laws have to hold between the counts.
 
-use plain::file::{Kind, MAX_EXPONENT};
+use plain::file::{Kind, LONG_BYTES, MAX_EXPONENT};
 use plain::operator::Operator;
 use plain::sheet::MAX_SHEET;
 use samples::{Random, Walk};
 
 use crate::call::{Answer, Call};
+use crate::gates::cs_gates;
 use crate::judge::Judge;
 
 /// A law of the count, by what it speaks of.
@@ -165,16 +166,10 @@ impl Laws<'_> {
         }
     }
 
-    /// A list whose product has this count: as many C, or more by an even number.
     fn of_lists(&mut self, count: u8) {
         let walk = Walk::reaching(&mut self.random, count);
-        let count = self.count(&walk.product);
-        let cs_gates = walk
-            .letters
-            .iter()
-            .filter(|&&letter| letter == b'C')
-            .count();
-        let more = cs_gates.checked_sub(count.into());
+        let count = self.answered(Call::GatesToOperator, &walk.letters, LONG_BYTES);
+        let more = cs_gates(&walk.letters).checked_sub(count.into());
         let even = more.is_some_and(|more| more.is_multiple_of(2));
         self.holds(Law::Gates, &[&walk.product], even);
     }
@@ -184,12 +179,15 @@ impl Laws<'_> {
         self.count(&between(first, second))
     }
 
-    /// The count that the library answers.
     fn count(&mut self, operator: &Operator) -> u8 {
-        let file = samples::file(operator);
-        match self.judge.run_with(Call::OperatorToSheet, &file, MAX_SHEET) {
+        self.answered(Call::OperatorToSheet, &samples::file(operator), MAX_SHEET)
+    }
+
+    /// The count that the library answers.
+    fn answered(&mut self, call: Call, input: &[u8], room: usize) -> u8 {
+        match self.judge.run_with(call, input, room) {
             (Answer::Count { count, .. }, _) => count as u8,
-            (answer, _) => unreachable!("an accepted operator, and {answer:?}"),
+            (answer, _) => unreachable!("an accepted operator or list, and {answer:?}"),
         }
     }
 

@@ -1,11 +1,9 @@
 -- The laws of the count. It is the least exponent, of which the laws of inverses and of products are known; the others follow from these: what
 -- has count 0 adds nothing to a product, and can be taken off again.
 use mathlib.Core.Path.{_≡_, refl, sym, _∙_, subst}
-use mathlib.Core.Logic.{_↔_}
 use mathlib.Core.List.{List}
 use Prim.Native.Nat.{ℕ, _+_, _≤_}
 use native.Mathlib.Omega.{arith}
-use lib.ListN.{length}
 use Rattle.matrix.specs.Matrix.{listed}
 use Rattle.matrix.specs.Operator.{Operator, operator, timesOperator, inverse, negative, SameOperator, Orthogonal, LeastExponent}
 use Rattle.matrix.specs.Laws.Operator.{same-operator-sym, same-operator-of, times-orthogonal, negative-orthogonal, same-orthogonal, same-proper, even-difference, least-unique, least-same, least-product}

@@ -1,12 +1,10 @@
 -- The count of A⁻¹ B is a distance between operators, up to a Clifford on the right, and the count that from the Cliffords.
 use mathlib.Core.Path.{_≡_, sym, ap, _∙_}
-use mathlib.Core.Logic.{_↔_}
 use Prim.Native.Nat.{ℕ, _+_, _≤_}
 use native.Mathlib.Omega.{arith}
 use Rattle.matrix.specs.Operator.{Operator, timesOperator, inverse, SameOperator}
 use Rattle.matrix.specs.Laws.Operator.{same-operator-refl, same-operator-sym, same-operator-trans, times-same, times-assoc}
 use Rattle.matrix.specs.Laws.Inverse.{inverse-product, cancelled-left}
-use Rattle.clifford.specs.Columns.{Clifford}
 use Rattle.count.specs.Count.{ProperOrthogonal, countOf, distance, DistanceLaws}
 use Rattle.count.specs.Laws.Group.{group-laws}
 use Rattle.count.specs.Laws.Count.{count-laws}

@@ -252,7 +252,7 @@ not-zero {A} o z =
     ∙ sum-cong (λ c hc. ap (λ x. x *ℤ A .matrix 0 c) (z 0 c (omega arith) hc) ∙ zero-*ℤ (A .matrix 0 c)) ∙ sum-zero 6 in
     pos-nz (2 ^ A .exponent) (pow-pos (A .exponent)) e
 
--- an orthogonal matrix has exponents that differ by even numbers
+-- the exponents with which an orthogonal matrix can be written differ by even numbers
 pub even-difference : {A B : Operator} → Orthogonal A → SameOperator A B → B .exponent ≤ A .exponent → (d : ℕ) × (A .exponent ≡ B .exponent + (d + d))
 even-difference {A} {B} o s l = elim (apart (A .exponent) (B .exponent) l) [
   | inl x ↦ x
