@@ -8,7 +8,7 @@ use Rattle.matrix.specs.Matrix.{listed}
 use Rattle.matrix.specs.Operator.{Operator, operator, timesOperator, inverse, negative, SameOperator, Orthogonal, LeastExponent}
 use Rattle.matrix.specs.Laws.Operator.{same-operator-sym, same-operator-of, times-orthogonal, negative-orthogonal, same-orthogonal, same-proper, even-difference, least-unique, least-same, least-product}
 use Rattle.matrix.specs.Laws.Array.{listed-same}
-use Rattle.matrix.specs.Laws.Inverse.{inverse-orthogonal, cancelled-left, cancelled-right, least-inverse}
+use Rattle.matrix.specs.Laws.Inverse.{inverse-orthogonal, inverse-product, cancelled-right, least-inverse}
 use Rattle.clifford.specs.Columns.{Clifford}
 use Rattle.clifford.specs.Laws.Columns.{orthogonal-clifford}
 use Rattle.clifford.specs.Laws.Sign.{sign-least}
@@ -40,24 +40,21 @@ count-inverse o = count-only (inverse-orthogonal o) (least-inverse (count-least 
 count-product : {A B : Operator} → Orthogonal A → Orthogonal B → (d : ℕ) × (countOf A + countOf B ≡ countOf (timesOperator A B) + (d + d))
 count-product o p = least-product o p (count-least o) (count-least p) (count-least (times-orthogonal o p))
 
-module _ {A C : Operator} (o : Orthogonal A) (p : Orthogonal C) (z : countOf C ≡ 0) where
-  zero-right : countOf (timesOperator A C) ≡ countOf A
-  zero-right =
-      let q = times-orthogonal o p in
-      let (d, e) = count-product o p in
-      let (f, g) = count-product q (inverse-orthogonal p) in
-      let i = count-inverse p in
-      let s = count-same (times-orthogonal q (inverse-orthogonal p)) (cancelled-right p A) in
-      omega arith
+-- A C has at most the count of A, and (A C) C⁻¹, which is A, at most that of A C
+zero-right : {A C : Operator} → Orthogonal A → Orthogonal C → countOf C ≡ 0 → countOf (timesOperator A C) ≡ countOf A
+zero-right {A} o p z =
+    let q = times-orthogonal o p in
+    let (d, e) = count-product o p in
+    let (f, g) = count-product q (inverse-orthogonal p) in
+    let i = count-inverse p in
+    let s = count-same (times-orthogonal q (inverse-orthogonal p)) (cancelled-right p A) in
+    omega arith
 
-  zero-left : countOf (timesOperator C A) ≡ countOf A
-  zero-left =
-      let q = times-orthogonal p o in
-      let (d, e) = count-product p o in
-      let (f, g) = count-product (inverse-orthogonal p) q in
-      let i = count-inverse p in
-      let s = count-same (times-orthogonal (inverse-orthogonal p) q) (cancelled-left p A) in
-      omega arith
+-- the inverse of C A is A⁻¹ C⁻¹
+zero-left : {A C : Operator} → Orthogonal A → Orthogonal C → countOf C ≡ 0 → countOf (timesOperator C A) ≡ countOf A
+zero-left {A} {C} o p z =
+    let q = times-orthogonal p o in
+    sym (count-inverse q) ∙ count-same (inverse-orthogonal q) (inverse-product C A) ∙ zero-right (inverse-orthogonal o) (inverse-orthogonal p) (count-inverse p ∙ z) ∙ count-inverse o
 
 -- ---- of Cliffords
 

@@ -13,14 +13,14 @@ use Rattle.count.specs.Laws.Count.{count-laws}
 between : {A B : Operator} → ProperOrthogonal A → ProperOrthogonal B → ProperOrthogonal (timesOperator (inverse A) B)
 between a b = group-laws .product-closed (group-laws .inverse-closed a) b
 
--- A (A⁻¹ B) is B
+-- A A⁻¹ B is B
 led : {A : Operator} → ProperOrthogonal A → (B : Operator) → SameOperator (timesOperator A (timesOperator (inverse A) B)) B
 led a B = cancelled-left (group-laws .inverse-closed a .orthogonal) B
 
 symmetric : {A B : Operator} → ProperOrthogonal A → ProperOrthogonal B → distance A B ≡ distance B A
 symmetric {A} {B} a b = sym (count-laws .inverse (between a b)) ∙ count-laws .same (group-laws .inverse-closed (between a b)) (inverse-product (inverse A) B)
 
--- the way from nowhere to B by A
+-- so B has at most the count of A and that of A⁻¹ B
 further : {A B : Operator} → ProperOrthogonal A → ProperOrthogonal B → countOf B ≤ countOf A + distance A B
 further {A} {B} a b =
     let (d, e) = count-laws .product a (between a b) in
