@@ -6,7 +6,7 @@ use mathlib.Core.Path.{_≡_}
 use Prim.Native.Nat.{ℕ, _+_, _≤_}
 use lib.ListN.{length}
 use Rattle.matrix.specs.Matrix.{listed}
-use Rattle.matrix.specs.Operator.{Operator, timesOperator, identity, inverse, negative, SameOperator, Orthogonal, Proper, LeastExponent}
+use Rattle.matrix.specs.Operator.{Operator, timesOperator, identity, inverse, negative, SameOperator, ProperOrthogonal, LeastExponent}
 use Rattle.clifford.specs.Columns.{Clifford}
 use Rattle.reduction.specs.Reduction.{taken}
 use Rattle.letter.specs.declared.Gate.{Gate}
@@ -16,13 +16,10 @@ use Rattle.gate.specs.Product.{MultipliesTo, csGates}
 
 -- `Operator`: a matrix of 36 whole numbers of any size with any exponent k; it stands for the matrix divided by root two to the power k.
 -- `SameOperator A B`: the two stand for the same matrix, sign included, whatever their exponents are.
+-- `ProperOrthogonal A`: "the product of two different rows is 0 and that of each row with itself is 2 to the power k", and "the determinant of M is
+-- positive". An operator file is accepted exactly if its operator is so (`accepted`, `entries-complete` of crates/acceptance).
 -- `inverse A`: the transpose of A, with its exponent.
 -- `Clifford C`: C has exponent 0, one entry of +1 or −1 in each row and column, and a positive determinant.
-
--- the operators of which the laws speak: their rows are orthogonal, and the determinant is positive
-pub record ProperOrthogonal (A : Operator) : Type 0 where
-  pub orthogonal : Orthogonal A
-  pub proper : Proper A
 
 -- the product: that of the two matrices, and the sum of the exponents
 infixl 70 _·_
@@ -61,7 +58,7 @@ pub record CountLaws : Type 0 where
   -- it depends on the matrix that the operator stands for, and not on the exponent with which that is written
   pub same : {A B : Operator} → ProperOrthogonal A → SameOperator A B → countOf A ≡ countOf B
   -- some gate list for the operator has so many letters C, and every list for it has so many or more by an even number
-  pub fewest : {A : Operator} → ProperOrthogonal A → (w : List Gate) × MultipliesTo w A × (csGates w ≡ countOf A)
+  pub attained : {A : Operator} → ProperOrthogonal A → (w : List Gate) × MultipliesTo w A × (csGates w ≡ countOf A)
   pub gates : {A : Operator} {w : List Gate} → MultipliesTo w A → (d : ℕ) × (csGates w ≡ countOf A + (d + d))
   -- "An inverse has the same count."
   pub inverse : {A : Operator} → ProperOrthogonal A → countOf (inverse A) ≡ countOf A

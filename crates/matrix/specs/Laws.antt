@@ -7,9 +7,9 @@ pub mod Sum
 pub mod Matrix
 pub mod Determinant
 pub mod Operator
+pub mod Inverse
 pub mod Range
 pub mod Machine
 pub mod Array
-pub mod Inverse
 pub mod Right
 pub mod Rows

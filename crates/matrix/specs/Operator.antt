@@ -71,6 +71,11 @@ pub record Orthogonal (A : Operator) : Type 0 where
 pub record Proper (A : Operator) : Type 0 where
   pub positive : pos 0 <ℤ det 6 (A .matrix)
 
+-- document 02's "proper orthogonal operators"
+pub record ProperOrthogonal (A : Operator) : Type 0 where
+  pub orthogonal : Orthogonal A
+  pub proper : Proper A
+
 -- "the smallest k for which the same operator has whole-number entries"
 pub record LeastExponent (A : Operator) (l : ℕ) : Type 0 where
   pub attained : (N : Matrix) × SameOperator A (operator l N)

@@ -5,9 +5,9 @@ use file::Answer;
 // Lists that are parted into two factors.
 const CHC: [u8; 3] = *b"CHC";
 
-const TWICE_C: [u8; 4] = *b"CHCC";
+const CHCC: [u8; 4] = *b"CHCC";
 
-const AND_BACK: [u8; 18] = *b"CHCCCCCCCCHCCCCCCC";
+const UNDONE: [u8; 18] = *b"CHCCCCCCCCHCCCCCCC";
 
 const CLIFFORD_RIGHT: [u8; 6] = *b"CHChSZ";
 
@@ -34,8 +34,8 @@ fn product_case(first: &[u8], second: &[u8], both: &[u8]) {
 // A product with the sum of the counts, one that is lower by two, and one by the whole sum: the second list undoes the first.
 fn bounds() {
     product_case(&CHC[..2], &CHC[2..], &CHC);
-    product_case(&TWICE_C[..3], &TWICE_C[3..], &TWICE_C);
-    product_case(&AND_BACK[..3], &AND_BACK[3..], &AND_BACK);
+    product_case(&CHCC[..3], &CHCC[3..], &CHCC);
+    product_case(&UNDONE[..3], &UNDONE[3..], &UNDONE);
 }
 
 // A Clifford on either side, and -1.

@@ -7,7 +7,7 @@ use native.Mathlib.Omega.{arith}
 use lib.Dec.{ltb}
 use lib.ListN.{length}
 use borrow.Author.Tests.{ltb-false, le-ltb}
-use Rattle.matrix.specs.Operator.{Operator, SameOperator, Orthogonal, Proper}
+use Rattle.matrix.specs.Operator.{Operator, SameOperator, ProperOrthogonal}
 use Rattle.matrix.specs.Array.{isWithin, isOrthogonal}
 use Rattle.matrix.specs.Laws.Test.{T-true, true-T, same-test}
 use Rattle.matrix.specs.Laws.Operator.{same-operator-sym, same-proper}
@@ -16,20 +16,16 @@ use Rattle.file.specs.File.{Kind, shortFile, longFile, largestExponent, exponen
 use Rattle.file.specs.Laws.File.{is-length, length-is}
 use Rattle.acceptance.specs.Acceptance.{isProper, entriesRefusal, fileRefusal}
 
-pub record Entries (A : Operator) : Type 0 where
-  pub orthogonal : Orthogonal A
-  pub proper : Proper A
-
-pub entries-sound : (A : Operator) → entriesRefusal A ≡ 0 → Entries A
+pub entries-sound : (A : Operator) → entriesRefusal A ≡ 0 → ProperOrthogonal A
 entries-sound A e = go (isWithin (A .exponent) (A .matrix)) (isOrthogonal (A .exponent) (A .matrix)) refl (isProper (A .matrix)) refl e
   where
-    go : (a b : Bool) → isOrthogonal (A .exponent) (A .matrix) ≡ b → (c : Bool) → isProper (A .matrix) ≡ c → _≡_ {A = ℕ} (cond (not a) 3 (cond (not b) 4 (cond (not c) 5 0))) 0 → Entries A
+    go : (a b : Bool) → isOrthogonal (A .exponent) (A .matrix) ≡ b → (c : Bool) → isProper (A .matrix) ≡ c → _≡_ {A = ℕ} (cond (not a) 3 (cond (not b) 4 (cond (not c) 5 0))) 0 → ProperOrthogonal A
     go true true o true p e = record { orthogonal = orthogonal-sound (A .exponent) (A .matrix) o; proper = record { positive = record { lt = true-T p } } }
     go true true o false p e = absurd (omega arith)
     go true false o c p e = absurd (omega arith)
     go false b o c p e = absurd (omega arith)
 
-pub entries-complete : (A : Operator) → Entries A → entriesRefusal A ≡ 0
+pub entries-complete : (A : Operator) → ProperOrthogonal A → entriesRefusal A ≡ 0
 entries-complete A a =
     rw (within-orthogonal (A .exponent) (A .matrix) (a .orthogonal), orthogonal-complete (A .exponent) (A .matrix) (a .orthogonal), T-true (isProper (A .matrix)) (a .proper .positive .lt))
 
@@ -44,7 +40,7 @@ same-entries {A} {B} h = rw (same-within h, same-is-orthogonal h, same-test (isP
 
 pub record Accepted (b : List ℕ) : Type 0 where
   pub form : InForm b
-  pub entries : Entries (fileOperator b)
+  pub entries : ProperOrthogonal (fileOperator b)
 
 -- an exponent of either kind
 pub range-most : (b : List ℕ) → InForm b → fileExponent b ≤ largestExponent

@@ -22,7 +22,8 @@ use Rattle.matrix.specs.Laws.Integer.{pos-nz, *ℤ-unit-r, equals-yes, equals-n
 use Rattle.matrix.specs.Laws.Sum.{sum-cong, sum-only, δ-same, δ-other, sum-δ}
 use Rattle.matrix.specs.Laws.Range.{first-found, getD-tabulate, tabulate-is, length-tabulate}
 use Rattle.matrix.specs.Laws.Matrix.{orthogonal-columns}
-use Rattle.matrix.specs.Laws.Array.{norm-total, row-norm, row-other, columns-of}
+use Rattle.matrix.specs.Laws.Operator.{inverse-orthogonal}
+use Rattle.matrix.specs.Laws.Array.{norm-total, row-norm, row-other}
 use Rattle.clifford.specs.Columns.{columnEntry, columnsMatrix, isColumnByte, rowOf, isMinus, differs, different, areColumnBytes, arePermutation, columnRow, columnByte, columnBytes, OneUnit, Clifford}
 
 -- ---- one byte
@@ -255,7 +256,7 @@ module _ (M : Matrix) (o : Orthogonal (operator 0 M)) (c : ℕ) (hc : c < 6) whe
   column : Column M c (columnByte M c)
   unfolding columnByte
   column =
-      let (r, hr, u, zeros) = norm-unit (λ s. M s c) (row-norm 0 (transpose M) (columns-of 0 M o) c hc) in
+      let (r, hr, u, zeros) = norm-unit (λ s. M s c) (row-norm 0 (transpose M) (inverse-orthogonal o) c hc) in
       rw (row-is r hr u zeros) (⊎-elim (plus r hr zeros) (minus r hr zeros) u)
     where
       row-is : (r : ℕ) → r < 6 → (M r c ≡ pos 1) ⊎ (M r c ≡ negsuc 0) → ((s : ℕ) → s < 6 → s ≢ r → M s c ≡ pos 0) → columnRow M c ≡ r
@@ -316,7 +317,7 @@ matrix-permutation M o = record {
         let w = column M o d hd in
         let p : entryOf b *ℤ (entryOf b′ *ℤ δ (rowOf b) (rowOf b′)) ≡ pos 0 =
         sym (bytes-product b b′ (v .valid) (w .valid)) ∙ sum-cong (λ s hs. ap₂ (λ x y. x *ℤ y) (v .is s hs) (w .is s hs))
-        ∙ row-other 0 (transpose M) (columns-of 0 M o) c d hc hd (omega arith) in
+        ∙ row-other 0 (transpose M) (inverse-orthogonal o) c d hc hd (omega arith) in
         signs (isMinus b) (isMinus b′) (rw (z, δ-same (rowOf b)) at p)
 
 -- equal columns have equal bytes: the entry in a byte's own row is its sign
@@ -365,7 +366,7 @@ pub orthogonal-clifford : (M : Matrix) → Orthogonal (operator 0 M) → Proper 
 orthogonal-clifford M o p = record {
   exponent-zero = refl;
   row = λ r h. norm-unit (M r) (row-norm 0 M o r h);
-  column = λ c h. norm-unit (λ r. M r c) (row-norm 0 (transpose M) (columns-of 0 M o) c h);
+  column = λ c h. norm-unit (λ r. M r c) (row-norm 0 (transpose M) (inverse-orthogonal o) c h);
   proper = p;
 }
 

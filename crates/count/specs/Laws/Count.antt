@@ -5,10 +5,10 @@ use mathlib.Core.List.{List}
 use Prim.Native.Nat.{ℕ, _+_, _≤_}
 use native.Mathlib.Omega.{arith}
 use Rattle.matrix.specs.Matrix.{listed}
-use Rattle.matrix.specs.Operator.{Operator, operator, timesOperator, inverse, negative, SameOperator, Orthogonal, LeastExponent}
-use Rattle.matrix.specs.Laws.Operator.{same-operator-sym, same-operator-of, times-orthogonal, negative-orthogonal, same-orthogonal, same-proper, even-difference, least-unique, least-same, least-product}
+use Rattle.matrix.specs.Operator.{Operator, operator, timesOperator, inverse, negative, SameOperator, Orthogonal, ProperOrthogonal, LeastExponent}
+use Rattle.matrix.specs.Laws.Operator.{same-operator-sym, same-operator-of, times-orthogonal, inverse-orthogonal, negative-orthogonal, same-orthogonal, same-proper, even-difference, least-unique, least-same, least-product}
 use Rattle.matrix.specs.Laws.Array.{listed-same}
-use Rattle.matrix.specs.Laws.Inverse.{inverse-orthogonal, inverse-product, cancelled-right, least-inverse}
+use Rattle.matrix.specs.Laws.Inverse.{inverse-product, cancelled-right, least-inverse}
 use Rattle.clifford.specs.Columns.{Clifford}
 use Rattle.clifford.specs.Laws.Columns.{orthogonal-clifford}
 use Rattle.clifford.specs.Laws.Sign.{sign-least}
@@ -17,7 +17,7 @@ use Rattle.letter.specs.declared.Gate.{Gate}
 use Rattle.gate.specs.Product.{productOf, MultipliesTo, csGates}
 use Rattle.gate.specs.Laws.Product.{product-exponent, product-orthogonal, multiplied-orthogonal}
 use Rattle.gate_list.specs.Laws.List.{some-list}
-use Rattle.count.specs.Count.{ProperOrthogonal, StandsForClifford, countOf, CountLaws}
+use Rattle.count.specs.Count.{StandsForClifford, countOf, CountLaws}
 use Rattle.count.specs.Laws.Group.{group-laws}
 
 -- ---- of every orthogonal operator
@@ -70,8 +70,8 @@ zero-clifford {A} a z =
 
 -- ---- of gate lists
 
-count-fewest : {A : Operator} → ProperOrthogonal A → (w : List Gate) × MultipliesTo w A × (csGates w ≡ countOf A)
-count-fewest a = let (w, m, h) = some-list (a .orthogonal) (a .proper) in (w, m, sym (count-only (a .orthogonal) h))
+count-attained : {A : Operator} → ProperOrthogonal A → (w : List Gate) × MultipliesTo w A × (csGates w ≡ countOf A)
+count-attained a = let (w, m, h) = some-list (a .orthogonal) (a .proper) in (w, m, sym (count-only (a .orthogonal) h))
 
 count-gates : {A : Operator} {w : List Gate} → MultipliesTo w A → (d : ℕ) × (csGates w ≡ countOf A + (d + d))
 count-gates {A} {w} m =
@@ -86,7 +86,7 @@ count-laws = record {
   least = λ a. count-least (a .orthogonal);
   only = λ a. count-only (a .orthogonal);
   same = λ a. count-same (a .orthogonal);
-  fewest = count-fewest;
+  attained = count-attained;
   gates = count-gates;
   inverse = λ a. count-inverse (a .orthogonal);
   product = λ a b. count-product (a .orthogonal) (b .orthogonal);

@@ -9,12 +9,12 @@ use lib.Signed.{_<ℤ_}
 use Rattle.matrix.specs.Range.{sum}
 use Rattle.matrix.specs.Matrix.{δ}
 use Rattle.matrix.specs.Determinant.{skip, det}
-use Rattle.matrix.specs.Operator.{Operator, operator, timesOperator, identity, inverse, negative, Orthogonal, Proper}
+use Rattle.matrix.specs.Operator.{Operator, operator, timesOperator, identity, inverse, negative, Orthogonal, Proper, ProperOrthogonal}
 use Rattle.matrix.specs.Laws.Integer.{*ℤ-unit-l}
 use Rattle.matrix.specs.Laws.Sum.{δ-sym}
 use Rattle.matrix.specs.Laws.Determinant.{det-scaled}
-use Rattle.matrix.specs.Laws.Operator.{same-operator-sym, same-operator-trans, same-operator-of, times-same, times-orthogonal, negative-orthogonal, same-orthogonal, same-proper}
-use Rattle.matrix.specs.Laws.Inverse.{inverse-orthogonal, inverse-same, inverse-product, times-inverse, inverse-times}
+use Rattle.matrix.specs.Laws.Operator.{same-operator-sym, same-operator-trans, same-operator-of, times-same, times-orthogonal, inverse-orthogonal, negative-orthogonal, same-proper}
+use Rattle.matrix.specs.Laws.Inverse.{inverse-same, inverse-product, times-inverse, inverse-times}
 use Rattle.clifford.specs.Columns.{Clifford}
 use Rattle.clifford.specs.Laws.Columns.{orthogonal-clifford, clifford-orthogonal}
 use Rattle.residue.specs.Generator.{table, place, generator}
@@ -23,7 +23,7 @@ use Rattle.letter.specs.declared.Gate.the-variants.{H1, H2, S1, S2, Cz, Cs}
 use Rattle.gate.specs.Product.{image, productOf}
 use Rattle.gate.specs.Laws.Product.{image-orthogonal, product-orthogonal, product-proper, product-append, multiplied-proper}
 use Rattle.gate_list.specs.Laws.List.{some-list}
-use Rattle.count.specs.Count.{ProperOrthogonal, GroupLaws}
+use Rattle.count.specs.Count.{GroupLaws}
 
 -- ---- proper operators
 
@@ -45,21 +45,18 @@ letter-inverse S2 = record { positive = record { lt = tt } }
 letter-inverse Cz = record { positive = record { lt = tt } }
 letter-inverse Cs = record { positive = record { lt = tt } }
 
-list-inverse : (w : List Gate) → ProperOrthogonal (inverse (productOf w))
+list-inverse : (w : List Gate) → Proper (inverse (productOf w))
 unfolding productOf
-list-inverse [] = record {
-  orthogonal = inverse-orthogonal (product-orthogonal []);
-  proper = same-proper (same-operator-of identity (inverse identity) refl (λ i j hi hj. δ-sym i j)) (product-proper []);
-}
+list-inverse [] = same-proper (same-operator-of identity (inverse identity) refl (λ i j hi hj. δ-sym i j)) (product-proper [])
 list-inverse (g ∷ w) =
-    let s = same-operator-sym (inverse-product (image g) (productOf w)) in
-    let p = times-closed (list-inverse w) (record { orthogonal = inverse-orthogonal (image-orthogonal g); proper = letter-inverse g }) in
-    record { orthogonal = same-orthogonal s (p .orthogonal); proper = same-proper s (p .proper) }
+    same-proper (same-operator-sym (inverse-product (image g) (productOf w)))
+    (times-proper (record { orthogonal = inverse-orthogonal (product-orthogonal w); proper = list-inverse w })
+    (record { orthogonal = inverse-orthogonal (image-orthogonal g); proper = letter-inverse g }))
 
 inverse-closed : {A : Operator} → ProperOrthogonal A → ProperOrthogonal (inverse A)
 inverse-closed a =
     let (w, m, n) = some-list (a .orthogonal) (a .proper) in
-    record { orthogonal = inverse-orthogonal (a .orthogonal); proper = same-proper (inverse-same (m .same)) (list-inverse w .proper) }
+    record { orthogonal = inverse-orthogonal (a .orthogonal); proper = same-proper (inverse-same (m .same)) (list-inverse w) }
 
 -- (−1) to the power 6 is 1
 negative-closed : {A : Operator} → ProperOrthogonal A → ProperOrthogonal (negative A)

@@ -18,7 +18,8 @@ use Rattle.matrix.specs.Operator.{operator, Orthogonal, AllEven, Reduced}
 use Rattle.matrix.specs.Array.{rowMask, rowWeight}
 use Rattle.matrix.specs.Laws.Parity.{parity-add, parity-mul, parity-lt, parity-even}
 use Rattle.matrix.specs.Laws.Range.{First, first-found, total-cong, total-some}
-use Rattle.matrix.specs.Laws.Array.{mask-ones, equal-masks, norm-total, row-norm, row-other, columns-of}
+use Rattle.matrix.specs.Laws.Operator.{inverse-orthogonal}
+use Rattle.matrix.specs.Laws.Array.{mask-ones, equal-masks, norm-total, row-norm, row-other}
 use Rattle.residue.specs.Generator.{low, high, fits, firstFit}
 use Rattle.residue.specs.Masks.{hasEvenRow}
 use Rattle.grouping.specs.Grouping.{groupSize, inGroupsOf, isLoose, fitting}
@@ -289,7 +290,7 @@ grouped-of M t =
     }
 
 column-norm : (k : ℕ) (M : Matrix) → Orthogonal (operator k M) → (c : ℕ) → c < 6 → sum 6 (λ r. M r c *ℤ M r c) ≡ pos (2 ^ k)
-column-norm k M o c h = row-norm k (transpose M) (columns-of k M o) c h
+column-norm k M o c h = row-norm k (transpose M) (inverse-orthogonal o) c h
 
 row-meets : (k : ℕ) (M : Matrix) → Orthogonal (operator k M) → (i j : ℕ) → i < j → j < 6 → weight (meet (oddRow M i) (oddRow M j)) % 2 ≡ 0
 row-meets k M o i j l h = meets-evenly (M i) (M j) (row-other k M o i j (omega arith) h (omega arith))

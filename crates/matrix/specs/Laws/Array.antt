@@ -15,7 +15,7 @@ use lib.Signed.{leZ}
 use borrow.Author.Tests.{eq-eqb, ne-eqb, eqb-true, eqb-false, le-leb, leb-true, le-ltb}
 use Rattle.matrix.specs.Range.{sum, bits, total}
 use Rattle.matrix.specs.Integer.{parity, half, equals}
-use Rattle.matrix.specs.Matrix.{Matrix, Same, δ, transpose, replaced, combined, rowProduct, entry, listed}
+use Rattle.matrix.specs.Matrix.{Matrix, Same, δ, replaced, combined, rowProduct, entry, listed}
 use Rattle.matrix.specs.Determinant.{det}
 use Rattle.matrix.specs.Operator.{Operator, operator, SameOperator, Orthogonal, LeastExponent, AllEven, Reduced}
 use Rattle.matrix.specs.Array.{Bounded, everywhere, orthogonalAt, isOrthogonal, isWithin, rowMask, rowWeight, oddAt, beforeOdd, halved, halfSums, choose, Least, least, leastForm}
@@ -25,7 +25,6 @@ use Rattle.matrix.specs.Laws.Range.{every-sound, every-complete, first-i
 use Rattle.matrix.specs.Laws.Test.{same-test}
 use Rattle.matrix.specs.Laws.Ring.{var, num, _:+_, _:-_, _:*_, _:=_, _of_, times-by}
 use Rattle.matrix.specs.Laws.Sum.{sum-cong, δ-same, δ-other, δ-sym}
-use Rattle.matrix.specs.Laws.Matrix.{orthogonal-columns}
 use Rattle.matrix.specs.Laws.Determinant.{replaced-same, replaced-other, det-cong, det-minus-plus}
 use Rattle.matrix.specs.Laws.Operator.{same-operator-refl, same-operator-sym, same-operator-trans, same-operator-of, same-orthogonal, reduced-least, reduced-unique, halved-same, entry-square, entry-bound, power-bound, same-square}
 
@@ -123,15 +122,12 @@ norm-total v n e = rearranged (q 0) (q 1) (q 2) (q 3) (q 4) (q 5) ∙ ap natAbs 
     here : pos (0 + q 0 + q 1 + q 2 + q 3 + q 4 + q 5) ≡ sum 6 (λ c. v c *ℤ v c)
     here = rw (square-size (v 0), square-size (v 1), square-size (v 2), square-size (v 3), square-size (v 4), square-size (v 5))
 
--- the rows and the columns of an orthogonal operator
+-- the rows of an orthogonal operator
 pub row-norm : (k : ℕ) (M : Matrix) → Orthogonal (operator k M) → (i : ℕ) → i < 6 → sum 6 (λ c. M i c *ℤ M i c) ≡ pos (2 ^ k)
 row-norm k M o i h = o .rows i i h h ∙ ap (λ x. pos (2 ^ k) *ℤ x) (δ-same i) ∙ *ℤ-unit-r (pos (2 ^ k))
 
 pub row-other : (k : ℕ) (M : Matrix) → Orthogonal (operator k M) → (i j : ℕ) → i < 6 → j < 6 → i ≢ j → rowProduct 6 M i j ≡ pos 0
 row-other k M o i j hi hj w = o .rows i j hi hj ∙ ap (λ x. pos (2 ^ k) *ℤ x) (δ-other i j w) ∙ *ℤ-zero (pos (2 ^ k))
-
-pub columns-of : (k : ℕ) (M : Matrix) → Orthogonal (operator k M) → Orthogonal (operator k (transpose M))
-columns-of k M o = record { rows = orthogonal-columns 6 (pos (2 ^ k)) M (o .rows) }
 
 -- ---- squares within 2 to the power k
 

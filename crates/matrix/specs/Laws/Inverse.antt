@@ -6,8 +6,7 @@ use native.Mathlib.Omega.{arith}
 use Rattle.matrix.specs.Matrix.{δ, transpose}
 use Rattle.matrix.specs.Operator.{raised, whole, Operator, timesOperator, identity, inverse, SameOperator, Orthogonal, LeastExponent}
 use Rattle.matrix.specs.Laws.Matrix.{product-id-l, product-id-r, transpose-product}
-use Rattle.matrix.specs.Laws.Operator.{raised-twice, same-operator-refl, same-operator-sym, same-operator-trans, same-operator-of, times-same, times-assoc}
-use Rattle.matrix.specs.Laws.Array.{columns-of}
+use Rattle.matrix.specs.Laws.Operator.{raised-twice, same-operator-refl, same-operator-sym, same-operator-trans, same-operator-of, times-same, times-assoc, inverse-orthogonal}
 
 -- ---- the identity
 
@@ -18,9 +17,6 @@ pub times-identity : (A : Operator) → SameOperator (timesOperator A identity) 
 times-identity A = same-operator-of (timesOperator A identity) A (omega arith) (product-id-r 6 (A .matrix))
 
 -- ---- the inverse
-
-pub inverse-orthogonal : {A : Operator} → Orthogonal A → Orthogonal (inverse A)
-inverse-orthogonal {A} o = columns-of (A .exponent) (A .matrix) o
 
 pub inverse-same : {A B : Operator} → SameOperator A B → SameOperator (inverse A) (inverse B)
 inverse-same s = record { entries = λ i j hi hj. s .entries j i hj hi }

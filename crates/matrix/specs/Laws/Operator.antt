@@ -12,11 +12,11 @@ use lib.Signed.{_<ℤ_}
 use Rattle.matrix.specs.Range.{sum}
 use Rattle.matrix.specs.Matrix.{Matrix, Same, δ, scaled, rowProduct}
 use Rattle.matrix.specs.Determinant.{det}
-use Rattle.matrix.specs.Operator.{Surd, whole, root, raised, Equal, Operator, operator, SameOperator, timesOperator, negative, Orthogonal, Proper, LeastExponent, Reduced}
+use Rattle.matrix.specs.Operator.{Surd, whole, root, raised, Equal, Operator, operator, SameOperator, timesOperator, inverse, negative, Orthogonal, Proper, LeastExponent, Reduced}
 use Rattle.matrix.specs.Laws.Integer.{+ℤ-swap, *ℤ-distr-r, *ℤ-distr-l, *ℤ-unit-l, *ℤ-unit-r, *ℤ-left-comm, *ℤ-cancel-l, pos-nz, double-cancel, self-neg, minus-one-*ℤ, positive-of-times, times-positive, square-size}
 use Rattle.matrix.specs.Laws.Ring.{var, num, _:+_, _:*_, ring}
 use Rattle.matrix.specs.Laws.Sum.{sum-cong, sum-zero, term-le-sum, δ-same}
-use Rattle.matrix.specs.Laws.Matrix.{product-assoc, orthogonal-product}
+use Rattle.matrix.specs.Laws.Matrix.{product-assoc, orthogonal-product, orthogonal-columns}
 use Rattle.matrix.specs.Laws.Determinant.{det-cong, det-scaled}
 
 -- ---- powers of √2
@@ -150,6 +150,10 @@ times-orthogonal {A} {B} p q = record {
       orthogonal-product 6 (pos (2 ^ A .exponent)) (pos (2 ^ B .exponent)) (A .matrix) (B .matrix) (p .rows) (q .rows) i j hi hj
       ∙ ap (λ m. pos m *ℤ δ i j) (sym (pow-add 2 (A .exponent) (B .exponent)));
 }
+
+-- rows that are orthogonal make columns that are
+pub inverse-orthogonal : {A : Operator} → Orthogonal A → Orthogonal (inverse A)
+inverse-orthogonal {A} o = record { rows = orthogonal-columns 6 (pos (2 ^ A .exponent)) (A .matrix) (o .rows) }
 
 pub negative-orthogonal : {A : Operator} → Orthogonal A → Orthogonal (negative A)
 negative-orthogonal {A} o = record { rows = λ i j hi hj. sum-cong (λ c hc. twice (A .matrix i c) (A .matrix j c)) ∙ o .rows i j hi hj }

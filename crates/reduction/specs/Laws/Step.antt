@@ -20,8 +20,8 @@ use Rattle.matrix.specs.Laws.Sum.{sum-cong, sum-add}
 use Rattle.matrix.specs.Laws.Range.{every-sound}
 use Rattle.matrix.specs.Laws.Matrix.{product-cong, product-assoc, product-scaled-l, same-refl, product-id-l}
 use Rattle.matrix.specs.Laws.Determinant.{det-cong}
-use Rattle.matrix.specs.Laws.Operator.{same-operator-of, same-orthogonal, times-orthogonal, halved-same}
-use Rattle.matrix.specs.Laws.Array.{equal-masks, half-sums-other, half-sums-exact, columns-of}
+use Rattle.matrix.specs.Laws.Operator.{same-operator-of, same-orthogonal, times-orthogonal, inverse-orthogonal, halved-same}
+use Rattle.matrix.specs.Laws.Array.{equal-masks, half-sums-other, half-sums-exact}
 use Rattle.residue.specs.Generator.{low, high, generator, turnedPair, turned, fits, firstFit}
 use Rattle.residue.specs.Laws.Generator.{low-not-high, pairs-apart, turned-pair-cong, generator-orthogonal, generator-product, turned-det}
 use Rattle.grouping.specs.Laws.Residue.{grouped-rows}
@@ -79,13 +79,13 @@ module _ (g : ℕ) (l : 1 ≤ g) (u : g ≤ 15) (M : Matrix) (f : fits (rowMask 
       ∙ ap (λ x. pos 2 *ℤ x) (product-id-l 6 (cut g M) r c hr hc)
     where
       inverse : Same 6 (product 6 (transpose (generator g)) (generator g)) (scaled (pos 2) δ)
-      inverse i j hi hj = columns-of 1 (generator g) (generator-orthogonal g l u) .rows i j hi hj
+      inverse i j hi hj = inverse-orthogonal (generator-orthogonal g l u) .rows i j hi hj
 
   pub cut-orthogonal : (k : ℕ) → Orthogonal (operator (suc k) M) → Orthogonal (operator k (cut g M))
   cut-orthogonal k o =
       same-orthogonal (halved-same k (product 6 (transpose (generator g)) M) (cut g M) (λ i j hi hj. doubled i j hi hj ∙ two-*ℤ (cut g M i j)))
       (same-orthogonal (same-operator-of (timesOperator (operator 1 (transpose (generator g))) (operator (suc k) M)) (operator (suc (suc k)) (product 6 (transpose (generator g)) M)) (omega arith) (same-refl 6 (product 6 (transpose (generator g)) M)))
-      (times-orthogonal (columns-of 1 (generator g) (generator-orthogonal g l u)) o))
+      (times-orthogonal (inverse-orthogonal (generator-orthogonal g l u)) o))
 
   -- were what is left all even, so would the matrix be
   pub cut-even : AllEven (cut g M) → AllEven M

@@ -10,7 +10,7 @@ use lib.Seq.{getD-take}
 use borrow.Author.Tests.{eq-eqb, le-leb, le-ltb}
 use Rattle.matrix.specs.List.{sameList}
 use Rattle.matrix.specs.Matrix.{entry, listed}
-use Rattle.matrix.specs.Operator.{operator, SameOperator, Proper}
+use Rattle.matrix.specs.Operator.{operator, SameOperator, Proper, ProperOrthogonal}
 use Rattle.matrix.specs.Laws.Test.{T-true, true-T, same-list-refl, and-left, and-right}
 use Rattle.matrix.specs.Laws.Range.{every-complete}
 use Rattle.matrix.specs.Laws.Operator.{same-operator-sym, same-operator-trans, same-orthogonal, same-proper}
@@ -146,7 +146,7 @@ module _ (s : List ℕ) (a : Accepted s) where
   sheet-file-accepted =
       file.in-form (sheetFile s) (file-in-form (sheetLeast s .exponent) (sheetLeast s .matrix) (sheet-small s a))
       ∙ file.entries-complete (fileOperator (sheetFile s))
-      (subst file.Entries (sym (sheet-file s a)) (record { orthogonal = least-orthogonal-sheet s a; proper = same-proper (same-operator-sym (sheet-same-least s a)) sheet-proper }))
+      (subst ProperOrthogonal (sym (sheet-file s a)) (record { orthogonal = least-orthogonal-sheet s a; proper = same-proper (same-operator-sym (sheet-same-least s a)) sheet-proper }))
 
   pub sheet-file-cut : fileSheet (sheetFile s) ≡ s
   sheet-file-cut =
