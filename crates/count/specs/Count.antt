@@ -17,7 +17,8 @@ use Rattle.gate.specs.Product.{MultipliesTo, csGates}
 -- `Operator`: a matrix of 36 whole numbers of any size with any exponent k; it stands for the matrix divided by root two to the power k.
 -- `SameOperator A B`: the two stand for the same matrix, sign included, whatever their exponents are.
 -- `ProperOrthogonal A`: "the product of two different rows is 0 and that of each row with itself is 2 to the power k", and "the determinant of M is
--- positive". An operator file is accepted exactly if its operator is so (`accepted`, `entries-complete` of crates/acceptance).
+-- positive". Of a file of the right length with an exponent in range: it is accepted exactly if its operator is so (`entries-sound`,
+-- `entries-complete` of crates/acceptance).
 -- `inverse A`: the transpose of A, with its exponent.
 -- `Clifford C`: C has exponent 0, one entry of +1 or −1 in each row and column, and a positive determinant.
 
