@@ -5,6 +5,7 @@ use mathlib.Core.List.{List}
 use Prim.Native.Nat.{ℕ, _+_, _-_, _≤_, _<_}
 use native.Mathlib.Omega.{arith}
 use lib.Dec.{ltb}
+use lib.IntN.{ℤ}
 use lib.ListN.{length, getD, drop}
 use lib.Seq.{getD-take}
 use borrow.Author.Tests.{eq-eqb, le-leb, le-ltb}
@@ -19,19 +20,19 @@ use Rattle.clifford.specs.Columns.{columnsMatrix, isColumnByte, isMinus, arePer
 use Rattle.clifford.specs.Laws.Columns.{Permutation, permutation-sound, permutation-complete, columns-valid, columns-orthogonal, orthogonal-permutation, orthogonal-clifford, clifford-orthogonal}
 use Rattle.clifford.specs.Laws.Signed.{signed-permutation}
 use Rattle.sign.specs.Laws.Sign.{even-proper, proper-even, signed-even}
-use Rattle.file.specs.File.{fileExponent, fileMatrix, fileOperator}
+use Rattle.file.specs.File.{largestExponent, fileExponent, fileMatrix, fileOperator}
 use Rattle.file.specs.Laws.File.{file-in-form, exponent-back, matrix-back, length-file-matrix}
-use Rattle.reduction.specs.Reduction.{taken}
+use Rattle.reduction.specs.Reduction.{count, taken}
+use Rattle.reduction.specs.Laws.NormalForm.{cutting}
 use Rattle.acceptance.specs.Acceptance.{fileRefusal, isProper}
-use Rattle.acceptance.specs.Cutting.{fileNumbers, fileColumns}
 use Rattle.operator.specs.Promise.{fileSheet}
 use Rattle.acceptance.specs.Laws.Acceptance as file
 use Rattle.acceptance.specs.Laws.Cutting.{even-is-proper}
-use Rattle.operator.specs.Laws.Promise.{file-cutting, count-small, sheet-length, sheet-multiplies}
+use Rattle.operator.specs.Laws.Promise.{count-small, sheet-multiplies}
 use Rattle.sheet_bytes.specs.Bytes.{shortest, longest, signByte, writtenColumns, sheet, sheetOf, sheetColumns, sheetSign, sheetOperator}
 use Rattle.sheet_bytes.specs.Sheet.{isNumber, areNumbers, isClifford, hasWrongSign, sheetRefusal, sheetLeast}
 use Rattle.sheet_bytes.specs.Laws.Bytes.{numbers-back, columns-back, sign-back, positive-first}
-use Rattle.sheet_bytes.specs.Laws.Sheet.{columnsLeft, left-permutation, same-sheet}
+use Rattle.sheet_bytes.specs.Laws.Sheet.{columnsLeft, left-permutation, length-sheet, sheet-back, same-sheet}
 use Rattle.sheet_bytes.specs.Laws.Count.{sheet-counted}
 use Rattle.sheet.specs.Promise.{sheetFile}
 use Rattle.sheet.specs.Laws.Sheet.{Accepted, accepted, sheet-orthogonal, sheet-same-least, sheet-small, least-orthogonal-sheet, sheet-long, sheet-file}
@@ -48,71 +49,74 @@ clifford-complete bs l b c =
     let p = orthogonal-permutation bs l b (clifford-orthogonal (columnsMatrix bs) c) in
     rw (permutation-complete bs p, proper-even bs p (c .proper))
 
--- ---- a file's sheet is read
+-- ---- a sheet that is written is read
 
-module _ (b : List ℕ) (z : fileRefusal b ≡ 0) where
-  columns-left : Permutation (fileColumns b)
-  columns-left = left-permutation (fileExponent b) (fileMatrix b) (file.accepted b z .entries .orthogonal)
+-- of a proper orthogonal operator whose count is in range
+module _ (k : ℕ) (m : List ℤ) (h : length m ≡ 36) (p : ProperOrthogonal (operator k (entry m))) (u : count k m ≤ largestExponent) where
+  columns-left : Permutation (columnsLeft k m)
+  columns-left = left-permutation k m (p .orthogonal)
 
-  columns-written : Permutation (writtenColumns (fileColumns b))
-  columns-written = signed-permutation (signByte (fileColumns b)) (fileColumns b) columns-left
+  columns-written : Permutation (writtenColumns (columnsLeft k m))
+  columns-written = signed-permutation (signByte (columnsLeft k m)) (columnsLeft k m) columns-left
 
-  numbers-pass : areNumbers (fileSheet b) ≡ true
+  numbers-pass : areNumbers (sheet k m) ≡ true
   unfolding sheet
   numbers-pass =
-      every-complete (length (fileSheet b) - shortest) (λ n. isNumber (getD (drop 1 (fileSheet b)) n 0))
-      (λ i h.
-      let t = file-cutting b z .exact in
-      let l = sheet-length b z in
-      let x = drop 1 (fileSheet b) in
+      every-complete (length (sheet k m) - shortest) (λ n. isNumber (getD (drop 1 (sheet k m)) n 0))
+      (λ i v.
+      let c = cutting k m (p .orthogonal) in
+      let t = c .exact in
+      let l = length-sheet k m (p .orthogonal) in
+      let x = drop 1 (sheet k m) in
       let g : (1 ≤ getD x i 0) × (getD x i 0 ≤ 15) =
-      subst (λ y. (1 ≤ y) × (y ≤ 15)) (ap (λ y. getD y i 0) (sym (numbers-back (fileNumbers b) (fileColumns b) (columns-left .long))) ∙ getD-take (length (fileSheet b) - shortest) x i 0 h) (file-cutting b z .numbers i (omega arith)) in
+      subst (λ y. (1 ≤ y) × (y ≤ 15)) (ap (λ y. getD y i 0) (sym (numbers-back (taken k m) (columnsLeft k m) (columns-left .long))) ∙ getD-take (length (sheet k m) - shortest) x i 0 v) (c .numbers i (omega arith)) in
       rw (le-leb 1 (getD x i 0) (g .0), le-leb (getD x i 0) 15 (g .1)))
 
-  clifford-passes : isClifford (writtenColumns (fileColumns b)) ≡ true
+  clifford-passes : isClifford (writtenColumns (columnsLeft k m)) ≡ true
   clifford-passes =
-      let a = file.accepted b z .entries in
       rw (
-        permutation-complete (writtenColumns (fileColumns b)) columns-written,
-        signed-even (signByte (fileColumns b)) (fileColumns b) columns-left,
-        even-is-proper (fileExponent b) (fileMatrix b) (a .orthogonal),
-        T-true (isProper (entry (fileMatrix b))) (a .proper .positive .lt),
+        permutation-complete (writtenColumns (columnsLeft k m)) columns-written,
+        signed-even (signByte (columnsLeft k m)) (columnsLeft k m) columns-left,
+        even-is-proper k m (p .orthogonal),
+        T-true (isProper (entry m)) (p .proper .positive .lt),
       )
 
-  sign-passes : hasWrongSign (writtenColumns (fileColumns b)) (signByte (fileColumns b)) ≡ false
-  sign-passes = rw (small (isMinus (getD (fileColumns b) 0 0)), positive-first (fileColumns b) columns-left)
+  sign-passes : hasWrongSign (writtenColumns (columnsLeft k m)) (signByte (columnsLeft k m)) ≡ false
+  sign-passes = rw (small (isMinus (getD (columnsLeft k m) 0 0)), positive-first (columnsLeft k m) columns-left)
     where
       small : (t : Bool) → ltb 1 (cond t 1 0) ≡ false
       small true = refl
       small false = refl
 
-  again : sheetOf (sheetOperator (fileSheet b)) ≡ fileSheet b
+  again : sheetOf (sheetOperator (sheet k m)) ≡ sheet k m
   again =
-      let a = file.accepted b z .entries in
-      let A = sheetOperator (fileSheet b) in
-      let s = same-operator-trans (same-operator-sym (listed-same A)) (sheet-multiplies b z) in
-      same-sheet (A .exponent) (fileExponent b) (listed (A .matrix)) (fileMatrix b) (length-listed (A .matrix)) (length-file-matrix b) (same-orthogonal (same-operator-sym s) (a .orthogonal)) (a .orthogonal) s
+      let A = sheetOperator (sheet k m) in
+      let s = same-operator-trans (same-operator-sym (listed-same A)) (sheet-back k m (p .orthogonal)) in
+      same-sheet (A .exponent) k (listed (A .matrix)) m (length-listed (A .matrix)) h (same-orthogonal (same-operator-sym s) (p .orthogonal)) (p .orthogonal) s
 
-  pub file-sheet-read : sheetRefusal (fileSheet b) ≡ 0
+  pub sheet-read : sheetRefusal (sheet k m) ≡ 0
   unfolding sheetRefusal sheet
-  file-sheet-read =
-      let l = sheet-length b z in
-      let u = count-small b z in
-      let columns : sheetColumns (fileSheet b) ≡ writtenColumns (fileColumns b) = columns-back (fileNumbers b) (fileColumns b) (columns-left .long) in
-      let sign : sheetSign (fileSheet b) ≡ signByte (fileColumns b) = sign-back (fileNumbers b) (fileColumns b) in
-      let same : sameList (sheetOf (sheetOperator (fileSheet b))) (fileSheet b) ≡ true = subst (λ x. sameList x (fileSheet b) ≡ true) (sym again) (same-list-refl (fileSheet b)) in
+  sheet-read =
+      let l = length-sheet k m (p .orthogonal) in
+      let columns : sheetColumns (sheet k m) ≡ writtenColumns (columnsLeft k m) = columns-back (taken k m) (columnsLeft k m) (columns-left .long) in
+      let sign : sheetSign (sheet k m) ≡ signByte (columnsLeft k m) = sign-back (taken k m) (columnsLeft k m) in
+      let same : sameList (sheetOf (sheetOperator (sheet k m))) (sheet k m) ≡ true = subst (λ x. sameList x (sheet k m) ≡ true) (sym again) (same-list-refl (sheet k m)) in
       rw (
-        le-ltb (length (fileSheet b)) shortest (omega arith),
-        le-ltb longest (length (fileSheet b)) (omega arith),
-        eq-eqb (getD (fileSheet b) 0 0) (length (fileSheet b) + 56) (sheet-counted (fileExponent b) (fileMatrix b) (file.accepted b z .entries .orthogonal)),
+        le-ltb (length (sheet k m)) shortest (omega arith),
+        le-ltb longest (length (sheet k m)) (omega arith),
+        eq-eqb (getD (sheet k m) 0 0) (length (sheet k m) + 56) (sheet-counted k m (p .orthogonal)),
         numbers-pass,
         same,
         columns,
         sign,
-        columns-valid (writtenColumns (fileColumns b)) (permutation-complete (writtenColumns (fileColumns b)) columns-written),
+        columns-valid (writtenColumns (columnsLeft k m)) (permutation-complete (writtenColumns (columnsLeft k m)) columns-written),
         clifford-passes,
         sign-passes,
       )
+
+module _ (b : List ℕ) (z : fileRefusal b ≡ 0) where
+  pub file-sheet-read : sheetRefusal (fileSheet b) ≡ 0
+  file-sheet-read = sheet-read (fileExponent b) (fileMatrix b) (length-file-matrix b) (file.accepted b z .entries) (count-small b z)
 
   -- "Reading what we now write still gives the operator"
   pub read-back : SameOperator (fileOperator (sheetFile (fileSheet b))) (fileOperator b)

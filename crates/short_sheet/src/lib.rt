@@ -1,0 +1,1 @@
+// The short sheets: theorems in specs/, and no function.
