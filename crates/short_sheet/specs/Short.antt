@@ -1,5 +1,5 @@
--- Every short cut, listed (document 02, P12): the list, and what is true of it; that it is so is the theorem `short-laws` of `Laws/`. Operators,
--- their product and count, and Cliffords are those of the page crates/count/specs/Count.antt.
+-- Every short cut, listed (document 02, P12): the list, and what is true of it; that it is so are the theorems `short-lines` and
+-- `short-laws` of `Laws/`. Operators, their product and count, and Cliffords are those of the page crates/count/specs/Count.antt.
 use mathlib.Core.Bool.{true, cond}
 use mathlib.Core.List.{List, [], _∷_, _++_, map, flatMap, List·Memᴰ}
 use mathlib.Core.Logic.{_↔_}
@@ -57,11 +57,7 @@ pub record Factored (A : Operator) (s : List ℕ) (C : Operator) : Type 0 where
   pub clifford : Clifford C
   pub same : SameOperator A (sheetOperator s · C)
 
-pub record ShortLaws : Type 0 where
-  -- every plain sheet of count n stands among those of count n, and nothing else
-  pub plain : (n : ℕ) (s : List ℕ) → List·Memᴰ s (plainSheets n) ↔ (Plain s × (length (sheetNumbers s) ≡ n))
-  -- every plain sheet of count at most 2 stands in the list, and nothing else
-  pub short : (s : List ℕ) → List·Memᴰ s shortSheets ↔ (Plain s × (length (sheetNumbers s) ≤ 2))
+pub record ShortLines : Type 0 where
   -- "the list has 1, 15 and 150 lines and its length-two part opens with `2 1 2`"
   pub none : length (plainSheets 0) ≡ 1
   pub one : length (plainSheets 1) ≡ 15
@@ -69,6 +65,12 @@ pub record ShortLaws : Type 0 where
   pub opens : figures (getD (plainSheets 2) 0 []) ≡ 2 ∷ 1 ∷ 2 ∷ []
   -- it rises strictly, so that no sheet stands in it twice
   pub rising : (i j : ℕ) → i < j → j < length shortSheets → before (figures (getD shortSheets i [])) (figures (getD shortSheets j [])) ≡ true
+
+pub record ShortLaws : Type 0 where
+  -- every plain sheet of count n stands among those of count n, and nothing else
+  pub plain : (n : ℕ) (s : List ℕ) → List·Memᴰ s (plainSheets n) ↔ (Plain s × (length (sheetNumbers s) ≡ n))
+  -- every plain sheet of count at most 2 stands in the list, and nothing else
+  pub short : (s : List ℕ) → List·Memᴰ s shortSheets ↔ (Plain s × (length (sheetNumbers s) ≤ 2))
   -- "Every operator of count at most 2 is one listed product times one Clifford,"
   pub factored : {A : Operator} → ProperOrthogonal A → countOf A ≤ 2 → (s : List ℕ) × (C : Operator) × Factored A s C
   -- "in exactly one way": the sign is the Clifford's

@@ -13,7 +13,8 @@ use Rattle.file.specs.declared.Answer.the-variants.{Count, Refused}
 use Rattle.file.specs.File.{longLength, lengthFor, written, Appended}
 use Rattle.file.specs.Laws.File.{length-file, length-most}
 use Rattle.sheet_bytes.specs.Sheet.{sheetRefusal, sheetLeast}
-use Rattle.sheet.specs.Promise.{sheetFile, operatorAnswer, operatorBuffer, OperatorPromise}
+use Rattle.sheet.specs.Promise.{sheetFile, operatorBuffer, OperatorPromise}
+use Rattle.sheet.specs.Laws.Promise.{answer-count, answer-refused}
 use Rattle.text.specs.Text.{refusedLine}
 use Rattle.text.specs.Laws.Text.{front}
 use Rattle.multiply_sheet.specs.Output.{outputOf}
@@ -23,10 +24,6 @@ module _ (s old new : List ℕ) (a : Answer) (room : longLength ≤ length old) 
   fits = le-trans (length-most (sheetLeast s .exponent)) room
 
   module _ (z : sheetRefusal s ≡ 0) where
-    answer-is : a ≡ Count (sheetLeast s .exponent)
-    unfolding operatorAnswer
-    answer-is = p .answer ∙ rw (eq-eqb (sheetRefusal s) 0 z, le-ltb (length old) (lengthFor (sheetLeast s .exponent)) fits)
-
     output-is : outputOf s ≡ sheetFile s
     unfolding outputOf
     output-is = rw (eq-eqb (sheetRefusal s) 0 z)
@@ -41,10 +38,6 @@ module _ (s old new : List ℕ) (a : Answer) (room : longLength ≤ length old) 
         (n, subst (λ x. Appended (outputOf s) 0 old x (lengthFor k)) (sym buffer-is) (subst (λ x. Appended (outputOf s) 0 old (written old (outputOf s)) x) n (front old (outputOf s))))
 
   module _ (n : sheetRefusal s ≢ 0) where
-    refusal-is : a ≡ Refused (sheetRefusal s)
-    unfolding operatorAnswer
-    refusal-is = p .answer ∙ rw (ne-eqb (sheetRefusal s) 0 n)
-
     line-is : refusedLine (sheetRefusal s) ≡ outputOf s
     unfolding outputOf
     line-is = rw (ne-eqb (sheetRefusal s) 0 n)
@@ -56,13 +49,13 @@ module _ (s old new : List ℕ) (a : Answer) (room : longLength ≤ length old) 
   -- after a count
   pub filed : (k : ℕ) → a ≡ Count k → (length (outputOf s) ≡ lengthFor k) × Appended (outputOf s) 0 old new (lengthFor k)
   filed k e = elim (ℕ-discrete (sheetRefusal s) 0) [
-    | yes z ↦ let f = answer-is z in let x : sheetLeast s .exponent ≡ k = cc in done z k x
-    | no n ↦ let f = refusal-is n in let x : _≡_ {A = ℕ} 0 1 = cc in absurd (omega arith)
+    | yes z ↦ let f = answer-count room p z in let x : sheetLeast s .exponent ≡ k = cc in done z k x
+    | no n ↦ let f = answer-refused room p n in let x : _≡_ {A = ℕ} 0 1 = cc in absurd (omega arith)
   ]
 
   -- after a refusal
   pub refused : (n : ℕ) → a ≡ Refused n → (refusedLine n ≡ outputOf s) × (new ≡ old)
   refused n e = elim (ℕ-discrete (sheetRefusal s) 0) [
-    | yes z ↦ let f = answer-is z in let x : _≡_ {A = ℕ} 0 1 = cc in absurd (omega arith)
-    | no m ↦ let f = refusal-is m in let x : n ≡ sheetRefusal s = cc in (ap refusedLine x ∙ line-is m, unchanged m)
+    | yes z ↦ let f = answer-count room p z in let x : _≡_ {A = ℕ} 0 1 = cc in absurd (omega arith)
+    | no m ↦ let f = answer-refused room p m in let x : n ≡ sheetRefusal s = cc in (ap refusedLine x ∙ line-is m, unchanged m)
   ]

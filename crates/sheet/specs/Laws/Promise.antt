@@ -3,13 +3,14 @@ use mathlib.Core.Path.{_≡_, sym, ap, ap₂, _∙_, subst}
 use mathlib.Core.Logic.{_≢_}
 use mathlib.Core.List.{List}
 use Prim.Native.Nat.{ℕ, _≤_, _<_}
+use native.Mathlib.Nat.{le-trans}
 use lib.ListN.{length}
 use borrow.Author.Tests.{eq-eqb, ne-eqb, lt-ltb, le-ltb}
 use Rattle.matrix.specs.Operator.{SameOperator}
 use Rattle.file.specs.declared.Answer.{Answer}
 use Rattle.file.specs.declared.Answer.the-variants.{Count, Refused}
-use Rattle.file.specs.File.{kindFor, lengthFor, fileOf, written, Fits}
-use Rattle.file.specs.Laws.File.{exponent-back, orthogonal-fits}
+use Rattle.file.specs.File.{longLength, kindFor, lengthFor, fileOf, written, Fits}
+use Rattle.file.specs.Laws.File.{length-most, exponent-back, orthogonal-fits}
 use Rattle.file.specs.declared.Read.{Read}
 use Rattle.sheet_bytes.specs.Bytes.{sheetOperator}
 use Rattle.sheet_bytes.specs.Sheet.{sheetRefusal, sheetLeast}
@@ -57,3 +58,14 @@ module _ (s old : List ℕ) (r : Read) (c : SheetRead s r) where
   fits e =
       let z = no-refusal e in
       rw (c .exponent z, c .matrix z) (orthogonal-fits (sheetLeast s .exponent) (sheetLeast s .matrix) (sheet-small s (accepted s z)) (least-orthogonal-sheet s (accepted s z)))
+
+-- ---- the answer, where the buffer has room for every file
+
+module _ {s old new : List ℕ} {a : Answer} (room : longLength ≤ length old) (p : OperatorPromise s old new a) where
+  pub answer-count : sheetRefusal s ≡ 0 → a ≡ Count (sheetLeast s .exponent)
+  unfolding operatorAnswer
+  answer-count z = p .answer ∙ rw (eq-eqb (sheetRefusal s) 0 z, le-ltb (length old) (lengthFor (sheetLeast s .exponent)) (le-trans (length-most (sheetLeast s .exponent)) room))
+
+  pub answer-refused : sheetRefusal s ≢ 0 → a ≡ Refused (sheetRefusal s)
+  unfolding operatorAnswer
+  answer-refused n = p .answer ∙ rw (ne-eqb (sheetRefusal s) 0 n)

@@ -24,7 +24,7 @@ use Rattle.reduction.specs.Reduction.{generators, taken, normalForm}
 use Rattle.reduction.specs.Laws.NormalForm.{Numbers, normal-exponent}
 use Rattle.sheet_bytes.specs.Bytes.{sheetBytes}
 use Rattle.sheet_bytes.specs.Sheet.{sheetRefusal}
-use Rattle.short_sheet.specs.Short.{plainBytes, sequences, ifRead, plainSheets, shortSheets, figures}
+use Rattle.short_sheet.specs.Short.{plainBytes, sequences, ifRead, plainSheets, shortSheets, figures, ShortLines}
 use Rattle.short_sheet.specs.Laws.Taken.{takenOf, plainProduct}
 use Rattle.short_sheet.specs.Laws.Plain.{plain-read}
 use Rattle.short_sheet.specs.Laws.List.{in-sequences}
@@ -104,16 +104,9 @@ it-has : T (hasLines (computed 0) (computed 1) (computed 2))
 unfolding isTaken computed isBefore isRising flatMap sequences sheetBytes parity everyFrom firstFrom tabulate bits δ replaced listed rowMask beforeOdd leastForm columnByte table place fits firstFit generators
 it-has = tt
 
-pub record Lines : Type 0 where
-  pub none : length (plainSheets 0) ≡ 1
-  pub one : length (plainSheets 1) ≡ 15
-  pub two : length (plainSheets 2) ≡ 150
-  pub opens : figures (getD (plainSheets 2) 0 []) ≡ 2 ∷ 1 ∷ 2 ∷ []
-  pub rising : (i j : ℕ) → i < j → j < length shortSheets → before (figures (getD shortSheets i [])) (figures (getD shortSheets j [])) ≡ true
-
-pub lines : Lines
+pub short-lines : ShortLines
 unfolding shortSheets
-lines =
+short-lines =
     let a = plain-computed 0 (omega arith) in
     let b = plain-computed 1 (omega arith) in
     let c = plain-computed 2 (omega arith) in

@@ -2,7 +2,7 @@
 use mathlib.Core.Path.{_≡_, refl, sym, ap, ap₂, _∙_, subst}
 use mathlib.Core.Logic.{_↔_}
 use mathlib.Core.List.{List, [], _∷_, _++_}
-use Prim.Native.Nat.{ℕ, _≤_}
+use Prim.Native.Nat.{ℕ, _+_, _≤_}
 use native.Mathlib.Omega.{arith}
 use lib.ListN.{length, drop}
 use Rattle.matrix.specs.Range.{firstFrom, tabulate}
@@ -17,7 +17,7 @@ use Rattle.reduction.specs.Reduction.{remaining}
 use Rattle.reduction.specs.Laws.NormalForm.{Numbers, normal-exponent, normal-form-same, cutting}
 use Rattle.sheet_bytes.specs.Bytes.{shortest, countByte, signByte, writtenColumns, sheetBytes, sheet, sheetOf, sheetNumbers, sheetColumns, sheetSign, sheetOperator}
 use Rattle.sheet_bytes.specs.Sheet.{sheetRefusal}
-use Rattle.sheet_bytes.specs.Laws.Bytes.{numbers-back, columns-back, sign-back, bytes-operator}
+use Rattle.sheet_bytes.specs.Laws.Bytes.{length-bytes, numbers-back, columns-back, sign-back, bytes-operator}
 use Rattle.sheet_bytes.specs.Laws.Sheet.{columnsLeft, left-permutation}
 use Rattle.sheet.specs.Laws.Sheet.{front-numbers, Accepted, accepted, numbers-room, sheet-orthogonal}
 use Rattle.round_trip.specs.Laws.Back.{sheet-read}
@@ -39,6 +39,9 @@ unfolding tabulate columnByte firstFrom δ
 identity-sign = refl
 
 module _ (gs : List ℕ) where
+  pub plain-length : length (plainBytes gs) ≡ length gs + shortest
+  plain-length = length-bytes gs (columnBytes δ) (identity-columns .long)
+
   pub plain-numbers : sheetNumbers (plainBytes gs) ≡ gs
   plain-numbers = numbers-back gs (columnBytes δ) (identity-columns .long)
 

@@ -15,7 +15,6 @@ use Rattle.short_sheet.specs.Short.{Plain, plainBytes, Factored, ShortLa
 use Rattle.short_sheet.specs.Laws.Taken.{same-both, takenOf, taken-same, taken-times, cancel-left, remainingOf, taken-numbers, taken-product, taken-clifford, taken-again, plain-proper}
 use Rattle.short_sheet.specs.Laws.Plain.{plain-numbers, read-plain, plain-operator, read-numbers, read-taken, plain-bytes, plain-read}
 use Rattle.short_sheet.specs.Laws.List.{in-plain, in-short}
-use Rattle.short_sheet.specs.Laws.Lines.{lines}
 
 -- ---- every operator of count at most 2 is such a product
 
@@ -69,11 +68,6 @@ pub short-laws : ShortLaws
 short-laws = record {
   plain = in-plain;
   short = in-short;
-  none = lines .none;
-  one = lines .one;
-  two = lines .two;
-  opens = lines .opens;
-  rising = lines .rising;
   factored = factored;
   unique = unique;
   counted = λ f. (proper f, ap length (taken-is f));
