@@ -17,6 +17,7 @@ mod negatives;
 mod operators;
 mod orders;
 mod sheets;
+mod short;
 mod tally;
 mod texts;
 mod trials;
@@ -33,6 +34,7 @@ fn main() -> ExitCode {
     negatives::run(&mut judge);
     kinds::run(&mut judge);
     laws::run(&mut judge);
+    short::run(&mut judge);
     operators::run(&mut judge);
     unitaries::run(&mut judge);
     lists::run(&mut judge);

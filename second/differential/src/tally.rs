@@ -1,11 +1,13 @@
 //! How often each call ran, each refusal of each call came, and each count, or figure of states, each kind and
 //! exponent of operator file, each L, each sign or power of ω of a gate list, each number of Z in a stretch of one, each last byte of a
 //! sheet, each number of sheets in a bundle, each length and position of a part of one, each statement of a
-//! text, and each number of few or of most statements was seen, and how often each law of the count was looked at.
+//! text, and each number of few or of most statements was seen, how often each law of the count was looked at, and
+//! how many short sheets were read and products with Cliffords cut.
 
 mod files;
 mod gates;
 mod laws;
+mod short;
 mod texts;
 
 use std::fmt::Display;
@@ -23,6 +25,7 @@ use crate::unitaries::UNITARY_LOOSE;
 use files::{Files, Use};
 use gates::{Beside, Gates, POWER, SIGN};
 use laws::Laws;
+use short::Short;
 use texts::Texts;
 
 const REFUSALS: usize = 256;
@@ -95,6 +98,7 @@ pub struct Tally {
     positions: [u64; POSITIONS.len()],
     texts: [Texts; CALLS.len()],
     laws: Laws,
+    short: Short,
 }
 
 impl Tally {
@@ -112,6 +116,7 @@ impl Tally {
             positions: [0; POSITIONS.len()],
             texts: CALLS.map(|_| Texts::new()),
             laws: Laws::new(),
+            short: Short::new(),
         }
     }
 
@@ -174,12 +179,27 @@ impl Tally {
         self.laws.add_product(below);
     }
 
+    /// Counts a short sheet that was read, by its count.
+    pub fn add_listed(&mut self, count: u64) {
+        self.short.add(count);
+    }
+
+    /// Counts the different sheets of listed products times Cliffords.
+    pub fn add_short_products(&mut self, different: usize) {
+        self.short.add_products(different);
+    }
+
+    /// Counts other products of two generators times Cliffords.
+    pub fn add_other_products(&mut self, number: usize) {
+        self.short.add_other_products(number);
+    }
+
     /// Prints a line for each call, one for all refusals and one for those of each call, one for the
     /// counts of each call that answers them, two or three for the files of each call that reads or writes
     /// them, one for the L of each call that cuts, two for each call that
     /// writes gate lists, one for the last bytes of each call with sheets, one for the numbers of sheets of
-    /// each call with bundles, two for the parts, three for each call with texts, one for each law, and one for
-    /// the products.
+    /// each call with bundles, two for the parts, three for each call with texts, one for each law, one for
+    /// the products, and three for the short sheets.
     pub fn print(&self) {
         for (call, inputs) in CALLS.iter().zip(self.inputs) {
             println!("{}: {inputs} inputs", call.name());
@@ -223,6 +243,7 @@ impl Tally {
             self.texts[call as usize].print(call, known);
         }
         self.laws.print();
+        self.short.print();
     }
 
     /// What was seen too seldom.
@@ -276,6 +297,7 @@ impl Tally {
             gaps.extend(self.texts[call as usize].gaps(call, known));
         }
         gaps.extend(self.laws.gaps());
+        gaps.extend(self.short.gaps());
         gaps
     }
 

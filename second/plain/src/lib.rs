@@ -1,6 +1,6 @@
 //! The CS cutter in plain Rust: operators, sheets and gate lists, four-by-four unitaries, bundles of
-//! sheets, gate lists as OpenQASM 2.0 text, and the states to order. Every definition, number and order of
-//! refusals is that of document 01, or of document 02 where that is later.
+//! sheets, gate lists as OpenQASM 2.0 text, the list of short sheets, and the states to order. Every
+//! definition, number and order of refusals is that of document 01, or of document 02 where that is later.
 //!
 //! A refusal is answered by its number (see [`refusal`]); it leaves every byte of the output as it
 //! was. On success the bytes past the output keep theirs too.
@@ -18,6 +18,7 @@ pub mod operator;
 pub mod qasm;
 pub mod refusal;
 pub mod sheet;
+pub mod short;
 pub mod stretch;
 pub mod unitary;
 pub mod words;

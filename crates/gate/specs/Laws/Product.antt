@@ -16,11 +16,11 @@ use Rattle.matrix.specs.Determinant.{det}
 use Rattle.matrix.specs.Operator.{Operator, operator, timesOperator, SameOperator, Orthogonal, Proper, LeastExponent}
 use Rattle.matrix.specs.Laws.Test.{left, right, T-true, true-T}
 use Rattle.matrix.specs.Laws.Integer.{times-positive, equals-eq, *ℤ-unit-l}
-use Rattle.matrix.specs.Laws.Matrix.{orthogonal-δ, product-cong, product-id-l, same-refl}
+use Rattle.matrix.specs.Laws.Matrix.{product-cong, product-id-l, same-refl}
 use Rattle.matrix.specs.Laws.Determinant.{det-cong, det-combined, det-identity, combined-cong, combined-product}
 use Rattle.matrix.specs.Laws.Operator.{same-operator-refl, same-operator-sym, same-operator-trans, times-same, times-assoc, times-orthogonal, same-orthogonal, same-proper}
 use Rattle.matrix.specs.Laws.Array.{everywhere-sound}
-use Rattle.matrix.specs.Laws.Inverse.{identity-times}
+use Rattle.matrix.specs.Laws.Inverse.{identity-orthogonal, identity-times}
 use Rattle.clifford.specs.Columns.{columnsMatrix, arePermutation}
 use Rattle.clifford.specs.Laws.Columns.{permutation-sound, columns-orthogonal}
 use Rattle.residue.specs.Laws.Generator.{generator-orthogonal, generator-product, turned-det}
@@ -65,7 +65,7 @@ image-orthogonal Cs = generator-orthogonal 3 (omega arith) (omega arith)
 
 pub product-orthogonal : (w : List Gate) → Orthogonal (productOf w)
 unfolding productOf
-product-orthogonal [] = record { rows = orthogonal-δ 6 }
+product-orthogonal [] = identity-orthogonal
 product-orthogonal (g ∷ w) = times-orthogonal (image-orthogonal g) (product-orthogonal w)
 
 -- ---- proper: an image is a list of row operations, each of determinant 1, or generator 3, of determinant 8

@@ -5,10 +5,13 @@ use Prim.Native.Nat.{ℕ}
 use native.Mathlib.Omega.{arith}
 use Rattle.matrix.specs.Matrix.{δ, transpose}
 use Rattle.matrix.specs.Operator.{raised, whole, Operator, timesOperator, identity, inverse, SameOperator, Orthogonal, LeastExponent}
-use Rattle.matrix.specs.Laws.Matrix.{product-id-l, product-id-r, transpose-product}
+use Rattle.matrix.specs.Laws.Matrix.{product-id-l, product-id-r, transpose-product, orthogonal-δ}
 use Rattle.matrix.specs.Laws.Operator.{raised-twice, same-operator-refl, same-operator-sym, same-operator-trans, same-operator-of, times-same, times-assoc, inverse-orthogonal}
 
 -- ---- the identity
+
+pub identity-orthogonal : Orthogonal identity
+identity-orthogonal = record { rows = orthogonal-δ 6 }
 
 pub identity-times : (A : Operator) → SameOperator (timesOperator identity A) A
 identity-times A = same-operator-of (timesOperator identity A) A (omega arith) (product-id-l 6 (A .matrix))
@@ -42,6 +45,10 @@ cancelled-left {A} o X =
 pub cancelled-right : {A : Operator} → Orthogonal A → (X : Operator) → SameOperator (timesOperator (timesOperator X A) (inverse A)) X
 cancelled-right {A} o X =
     same-operator-trans (times-assoc X A (inverse A)) (same-operator-trans (times-same (same-operator-refl X) (times-inverse o)) (times-identity X))
+
+pub cancel-left : {A X Y : Operator} → Orthogonal A → SameOperator (timesOperator A X) (timesOperator A Y) → SameOperator X Y
+cancel-left {A} {X} {Y} o s =
+    same-operator-trans (same-operator-sym (cancelled-left o X)) (same-operator-trans (times-same (same-operator-refl (inverse A)) s) (cancelled-left o Y))
 
 -- ---- the least exponent
 

@@ -12,7 +12,7 @@ use lib.Signed.{_<ℤ_}
 use Rattle.matrix.specs.Range.{sum}
 use Rattle.matrix.specs.Matrix.{Matrix, Same, δ, scaled, rowProduct}
 use Rattle.matrix.specs.Determinant.{det}
-use Rattle.matrix.specs.Operator.{Surd, whole, root, raised, Equal, Operator, operator, SameOperator, timesOperator, inverse, negative, Orthogonal, Proper, LeastExponent, Reduced}
+use Rattle.matrix.specs.Operator.{Surd, whole, root, raised, Equal, Operator, operator, SameOperator, timesOperator, inverse, negative, Orthogonal, Proper, ProperOrthogonal, LeastExponent, Reduced}
 use Rattle.matrix.specs.Laws.Integer.{+ℤ-swap, *ℤ-distr-r, *ℤ-distr-l, *ℤ-unit-l, *ℤ-unit-r, *ℤ-left-comm, *ℤ-cancel-l, pos-nz, double-cancel, self-neg, minus-one-*ℤ, positive-of-times, times-positive, square-size}
 use Rattle.matrix.specs.Laws.Ring.{var, num, _:+_, _:*_, ring}
 use Rattle.matrix.specs.Laws.Sum.{sum-cong, sum-zero, term-le-sum, δ-same}
@@ -246,6 +246,9 @@ same-proper {A} {B} h p = record { positive = go (decLe (B .exponent) (A .expone
     go : Dec (B .exponent ≤ A .exponent) → pos 0 <ℤ det 6 (B .matrix)
     go (yes l) = down (det-apart A B h l)
     go (no f) = up (det-apart B A (same-operator-sym h) (omega arith))
+
+pub same-proper-orthogonal : {A B : Operator} → SameOperator A B → ProperOrthogonal A → ProperOrthogonal B
+same-proper-orthogonal s p = record { orthogonal = same-orthogonal s (p .orthogonal); proper = same-proper s (p .proper) }
 
 -- ---- the least exponent
 

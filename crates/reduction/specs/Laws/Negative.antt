@@ -6,8 +6,9 @@ use Prim.Native.Nat.{ℕ}
 use lib.IntN.{ℤ, negsuc, _*ℤ_}
 use Rattle.matrix.specs.Matrix.{Matrix, δ, scaled, entry, listed}
 use Rattle.matrix.specs.Operator.{operator, negative, SameOperator, Orthogonal}
-use Rattle.matrix.specs.Laws.Matrix.{product-id-r, product-scaled-r, orthogonal-δ}
+use Rattle.matrix.specs.Laws.Matrix.{product-id-r, product-scaled-r}
 use Rattle.matrix.specs.Laws.Operator.{negative-orthogonal, same-orthogonal}
+use Rattle.matrix.specs.Laws.Inverse.{identity-orthogonal}
 use Rattle.matrix.specs.Laws.Array.{listed-cong, listed-same}
 use Rattle.reduction.specs.Reduction.{count, taken, remaining}
 use Rattle.reduction.specs.Laws.Right.{timesRight, count-right, taken-right, remaining-right}
@@ -24,7 +25,7 @@ abbrev pub minusOne : Matrix
 minusOne = scaled (negsuc 0) δ
 
 pub minus-one-orthogonal : Orthogonal (operator 0 minusOne)
-minus-one-orthogonal = negative-orthogonal {A = operator 0 δ} (record { rows = orthogonal-δ 6 })
+minus-one-orthogonal = negative-orthogonal identity-orthogonal
 
 pub negative-right : (m : List ℤ) → negativeOf m ≡ timesRight m minusOne
 negative-right m =

@@ -29,6 +29,10 @@ use Rattle.reduction.specs.Laws.Step.{one-step}
 abbrev pub Numbers : List ℕ → Type 0
 Numbers gs = (i : ℕ) → i < length gs → (1 ≤ getD gs i 0) × (getD gs i 0 ≤ 15)
 
+pub more-numbers : (g : ℕ) (gs : List ℕ) → (1 ≤ g) × (g ≤ 15) → Numbers gs → Numbers (g ∷ gs)
+more-numbers g gs h n zero u = h
+more-numbers g gs h n (suc i) u = n i (omega arith)
+
 pub record Taken (k : ℕ) (M : Matrix) (gs : List ℕ) (C : Matrix) : Type 0 where
   -- exactly k generators are taken
   pub exact : length gs ≡ k
@@ -97,17 +101,13 @@ reduce (suc k) m o r =
     let rest = reduce k (step m) (step-orthogonal k m o r) (step-reduced k m o r) in
     record {
       exact = length-generators (suc k) m;
-      numbers = λ i h. number-at i h (s .number) (rest .numbers);
+      numbers = more-numbers (chosen m) (generators k (step m)) (s .number) (rest .numbers);
       orthogonal = rest .orthogonal;
       same = same-operator-trans (s .same) (times-same (same-operator-refl (operator 1 (generator (chosen m)))) (same-operator-trans (step-operator k m o r) (rest .same)));
       sign =
           let (n, p, e) = rest .sign in
           (8 * n, mul-pos {m = 8} {n = n} (omega arith) p, s .sign ∙ ap (λ x. pos 8 *ℤ x) (sym (det-cong 6 _ _ (step-same k m o r)) ∙ e) ∙ sym (*ℤ-assoc (pos 8) (pos n) (det 6 (entry (remainder k (step m))))));
     }
-  where
-    number-at : (i : ℕ) → i < suc (length (generators k (step m))) → (1 ≤ chosen m) × (chosen m ≤ 15) → Numbers (generators k (step m)) → (1 ≤ getD (chosen m ∷ generators k (step m)) i 0) × (getD (chosen m ∷ generators k (step m)) i 0 ≤ 15)
-    number-at zero h a rest = a
-    number-at (suc i) h a rest = rest i (omega arith)
 
 -- ---- generators times a matrix
 

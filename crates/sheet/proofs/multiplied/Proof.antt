@@ -8,9 +8,10 @@ use lib.ListN.{length, getD, take, drop}
 use lib.Seq.{length-take-le, getD-take, drop-cons, drop-length}
 use denote.Ref.{now}
 use Rattle.matrix.specs.Matrix.{Matrix, Same, δ, entry, listed, product}
-use Rattle.matrix.specs.Operator.{operator, timesOperator, Orthogonal}
-use Rattle.matrix.specs.Laws.Matrix.{product-cong, product-assoc, product-id-l, orthogonal-δ}
+use Rattle.matrix.specs.Operator.{operator, timesOperator, identity, Orthogonal}
+use Rattle.matrix.specs.Laws.Matrix.{product-cong, product-assoc, product-id-l}
 use Rattle.matrix.specs.Laws.Operator.{times-orthogonal, same-orthogonal, same-operator-of}
+use Rattle.matrix.specs.Laws.Inverse.{identity-orthogonal}
 use Rattle.matrix.specs.Laws.Array.{entry-listed, listed-cong, orthogonal-bounded}
 use Rattle.clifford.specs.Columns.{columnsMatrix}
 use Rattle.residue.specs.Generator.{generator}
@@ -28,7 +29,7 @@ record Going (gs : List ℕ) (C : Matrix) (m : List ℤ) (n : ℕ) : Type 0 wher
 
 start : (gs : List ℕ) (C : Matrix) (m : List ℤ) → m ≡ listed δ → Going gs C m 0
 start gs C m e = record {
-  orthogonal = same-orthogonal (same-operator-of (operator 0 δ) (operator 0 (entry m)) refl (λ i j hi hj. sym (identity-entry i j hi hj))) (record { rows = orthogonal-δ 6 });
+  orthogonal = same-orthogonal (same-operator-of identity (operator 0 (entry m)) refl (λ i j hi hj. sym (identity-entry i j hi hj))) identity-orthogonal;
   whole = λ i j hi hj. sym (product-cong {B = normalForm gs C .matrix} {B′ = normalForm gs C .matrix} identity-entry (λ i j hi hj. refl) i j hi hj ∙ product-id-l 6 (normalForm gs C .matrix) i j hi hj);
 }
   where

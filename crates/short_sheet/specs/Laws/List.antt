@@ -10,7 +10,7 @@ use lib.Dec.{eqb}
 use lib.ListN.{length}
 use borrow.Author.Tests.{eq-eqb, eqb-true}
 use Rattle.matrix.specs.Range.{tabulate}
-use Rattle.reduction.specs.Laws.NormalForm.{Numbers}
+use Rattle.reduction.specs.Laws.NormalForm.{Numbers, more-numbers}
 use Rattle.sheet_bytes.specs.Bytes.{sheetNumbers}
 use Rattle.sheet_bytes.specs.Sheet.{sheetRefusal}
 use Rattle.short_sheet.specs.Short.{Plain, plainBytes, sequences, ifRead, plainSheets, shortSheets}
@@ -46,10 +46,6 @@ range-has g a (suc k) l u = elim (ℕ-discrete g a) [
   | no e ↦ List·Memᴰ·tail (range-has g (suc a) k (omega arith) (omega arith))
 ]
 
-cons-numbers : (g : ℕ) (gs : List ℕ) → 1 ≤ g → g ≤ 15 → Numbers gs → Numbers (g ∷ gs)
-cons-numbers g gs l u n zero h = (l, u)
-cons-numbers g gs l u n (suc i) h = n i (omega arith)
-
 pub in-sequences : (n : ℕ) (gs : List ℕ) → List·Memᴰ gs (sequences n) → Numbers gs × (length gs ≡ n)
 unfolding sequences
 in-sequences zero gs m =
@@ -59,7 +55,7 @@ in-sequences (suc n) gs m =
     let (hs, k, e) = Memᴰ·of-map (λ gs. g ∷ gs) (sequences n) j in
     let (l, u) = in-range g 1 15 i in
     let (r, t) = in-sequences n hs k in
-    subst (λ x. Numbers x × (length x ≡ suc n)) e (cons-numbers g hs l (omega arith) r, ap suc t)
+    subst (λ x. Numbers x × (length x ≡ suc n)) e (more-numbers g hs (l, omega arith) r, ap suc t)
 
 sequences-have : (n : ℕ) (gs : List ℕ) → Numbers gs → length gs ≡ n → List·Memᴰ gs (sequences n)
 unfolding sequences

@@ -8,7 +8,8 @@ use lib.ListN.{length, drop}
 use Rattle.matrix.specs.Range.{firstFrom, tabulate}
 use Rattle.matrix.specs.Matrix.{δ, entry, listed}
 use Rattle.matrix.specs.Operator.{operator, SameOperator, Orthogonal}
-use Rattle.matrix.specs.Laws.Operator.{same-operator-sym, same-operator-trans, same-orthogonal}
+use Rattle.matrix.specs.Laws.Operator.{same-operator-sym, same-operator-trans, same-orthogonal, same-proper-orthogonal}
+use Rattle.matrix.specs.Laws.Inverse.{identity-orthogonal}
 use Rattle.matrix.specs.Laws.Array.{length-listed, listed-same}
 use Rattle.file.specs.File.{largestExponent}
 use Rattle.clifford.specs.Columns.{columnsMatrix, columnByte, columnBytes}
@@ -22,7 +23,7 @@ use Rattle.sheet_bytes.specs.Laws.Sheet.{columnsLeft, left-permutation}
 use Rattle.sheet.specs.Laws.Sheet.{front-numbers, Accepted, accepted, numbers-room, sheet-orthogonal}
 use Rattle.round_trip.specs.Laws.Back.{sheet-read}
 use Rattle.short_sheet.specs.Short.{Plain, plainBytes}
-use Rattle.short_sheet.specs.Laws.Taken.{same-both, takenOf, taken-same, plainProduct, identity-orthogonal, plain-orthogonal, left-same, plain-proper}
+use Rattle.short_sheet.specs.Laws.Taken.{takenOf, taken-same, plainProduct, plain-orthogonal, left-same, plain-proper}
 
 -- ---- bytes
 
@@ -117,7 +118,7 @@ plain-read gs n l = (
   λ z. taken-same (plain-orthogonal gs n) (same-operator-sym (plain-operator gs)) ∙ read-taken (plainBytes gs) z ∙ plain-numbers gs,
   λ e.
     let P = plainProduct gs in
-    let p = same-both (listed-same P) (plain-proper gs n e) in
+    let p = same-proper-orthogonal (listed-same P) (plain-proper gs n e) in
     let c = cutting (P .exponent) (listed (P .matrix)) (p .orthogonal) .exact in
     let t = ap length e in
     subst (λ s. sheetRefusal s ≡ 0) (plain-sheet gs n e) (sheet-read (P .exponent) (listed (P .matrix)) (length-listed (P .matrix)) p (omega arith)),

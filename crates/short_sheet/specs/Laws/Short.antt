@@ -5,14 +5,15 @@ use Prim.Native.Nat.{ℕ, _≤_}
 use native.Mathlib.Omega.{arith}
 use lib.ListN.{length}
 use Rattle.matrix.specs.Operator.{Operator, operator, timesOperator, SameOperator, Orthogonal, ProperOrthogonal}
-use Rattle.matrix.specs.Laws.Operator.{same-operator-refl, same-operator-sym, same-operator-trans, same-operator-of, times-same, same-orthogonal}
+use Rattle.matrix.specs.Laws.Operator.{same-operator-refl, same-operator-sym, same-operator-trans, same-operator-of, times-same, same-orthogonal, same-proper-orthogonal}
+use Rattle.matrix.specs.Laws.Inverse.{cancel-left}
 use Rattle.clifford.specs.Columns.{Clifford}
 use Rattle.sheet_bytes.specs.Bytes.{sheetNumbers, sheetOperator}
 use Rattle.sheet_bytes.specs.Sheet.{sheetRefusal}
 use Rattle.count.specs.Count.{countOf}
 use Rattle.count.specs.Laws.Group.{group-laws}
 use Rattle.short_sheet.specs.Short.{Plain, plainBytes, Factored, ShortLaws}
-use Rattle.short_sheet.specs.Laws.Taken.{same-both, takenOf, taken-same, taken-times, cancel-left, remainingOf, taken-numbers, taken-product, taken-clifford, taken-again, plain-proper}
+use Rattle.short_sheet.specs.Laws.Taken.{takenOf, taken-same, taken-times, remainingOf, taken-numbers, taken-product, taken-clifford, taken-again, plain-proper}
 use Rattle.short_sheet.specs.Laws.Plain.{plain-numbers, read-plain, plain-operator, read-numbers, read-taken, plain-bytes, plain-read}
 use Rattle.short_sheet.specs.Laws.List.{in-plain, in-short}
 
@@ -45,10 +46,10 @@ module _ {A C : Operator} {s : List ℕ} (f : Factored A s C) where
       let h = in-short s .0 (f .listed) .1 in
       let b = plain-bytes is-plain in
       let e = plain-read gs n (omega arith) .0 (subst (λ x. sheetRefusal x ≡ 0) b z) in
-      subst (λ x. ProperOrthogonal (sheetOperator x)) (sym b) (same-both (same-operator-sym (plain-operator gs)) (plain-proper gs n e))
+      subst (λ x. ProperOrthogonal (sheetOperator x)) (sym b) (same-proper-orthogonal (same-operator-sym (plain-operator gs)) (plain-proper gs n e))
 
   proper : ProperOrthogonal A
-  proper = same-both (same-operator-sym (f .same)) (group-laws .product-closed sheet-proper (group-laws .clifford-proper (f .clifford)))
+  proper = same-proper-orthogonal (same-operator-sym (f .same)) (group-laws .product-closed sheet-proper (group-laws .clifford-proper (f .clifford)))
 
   -- cutting takes the sheet's numbers, since no Clifford on the right changes what it takes
   taken-is : takenOf A ≡ sheetNumbers s

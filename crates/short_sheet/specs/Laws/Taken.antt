@@ -5,10 +5,10 @@ use mathlib.Core.List.{List, [], _∷_}
 use Prim.Native.Nat.{ℕ}
 use native.Mathlib.Omega.{arith}
 use Rattle.matrix.specs.Matrix.{Matrix, Same, δ, product, entry, listed}
-use Rattle.matrix.specs.Operator.{raised, Operator, operator, timesOperator, identity, inverse, SameOperator, Orthogonal, Proper, ProperOrthogonal}
-use Rattle.matrix.specs.Laws.Matrix.{product-cong, orthogonal-δ, same-refl}
+use Rattle.matrix.specs.Operator.{raised, Operator, operator, timesOperator, identity, SameOperator, Orthogonal, Proper, ProperOrthogonal}
+use Rattle.matrix.specs.Laws.Matrix.{product-cong, same-refl}
 use Rattle.matrix.specs.Laws.Operator.{same-operator-refl, same-operator-sym, same-operator-trans, same-operator-of, times-same, times-assoc, times-orthogonal, same-orthogonal, same-proper}
-use Rattle.matrix.specs.Laws.Inverse.{identity-times, times-identity, cancelled-left}
+use Rattle.matrix.specs.Laws.Inverse.{identity-orthogonal, identity-times, times-identity, cancel-left}
 use Rattle.matrix.specs.Laws.Array.{entry-listed, length-listed, listed-is, listed-same, same-least-form}
 use Rattle.clifford.specs.Columns.{Clifford}
 use Rattle.residue.specs.Generator.{generator}
@@ -17,9 +17,6 @@ use Rattle.reduction.specs.Laws.NormalForm.{Numbers, normal-orthogonal, Cutting
 use Rattle.reduction.specs.Laws.Right.{timesRight, taken-right}
 use Rattle.gate.specs.Product.{productOf}
 use Rattle.gate.specs.Laws.Product.{product-proper}
-
-pub same-both : {A B : Operator} → SameOperator A B → ProperOrthogonal A → ProperOrthogonal B
-same-both s p = record { orthogonal = same-orthogonal s (p .orthogonal); proper = same-proper s (p .proper) }
 
 -- ---- the generators taken, and the operator that remains
 
@@ -53,9 +50,6 @@ taken-times {A} o C c =
 abbrev pub plainProduct : List ℕ → Operator
 plainProduct gs = normalForm gs δ
 
-pub identity-orthogonal : Orthogonal identity
-identity-orthogonal = record { rows = orthogonal-δ 6 }
-
 pub plain-orthogonal : (gs : List ℕ) → Numbers gs → Orthogonal (plainProduct gs)
 plain-orthogonal gs n = normal-orthogonal gs δ n identity-orthogonal
 
@@ -65,10 +59,6 @@ plain-times [] C = same-operator-sym (identity-times (operator 0 C))
 plain-times (g ∷ gs) C =
     same-operator-trans (times-same (same-operator-refl (operator 1 (generator g))) (plain-times gs C))
     (same-operator-sym (times-assoc (operator 1 (generator g)) (plainProduct gs) (operator 0 C)))
-
-pub cancel-left : {A X Y : Operator} → Orthogonal A → SameOperator (timesOperator A X) (timesOperator A Y) → SameOperator X Y
-cancel-left {A} {X} {Y} o s =
-    same-operator-trans (same-operator-sym (cancelled-left o X)) (same-operator-trans (times-same (same-operator-refl (inverse A)) s) (cancelled-left o Y))
 
 module _ {A : Operator} (o : Orthogonal A) where
   cut-of : Cutting (A .exponent) (listed (A .matrix))
