@@ -1,6 +1,6 @@
 -- Document 01's trial cuts that are marked to be proved of the definitions, with the first byte of document 02, P4, the last byte of P2 and the
--- L of P3; these requests' own cases, the orders of P1, the walks of P6, the bundles of P7, the two kinds of file of P10 and the counts of P11: a
--- table of cases, and the test that each passes.
+-- L of P3; these requests' own cases, the orders of P1, the walks of P6, the bundles of P7, the two kinds of file of P10, the counts of P11 and the pairs of
+-- P12: a table of cases, and the test that each passes.
 use mathlib.Core.Bool.{Bool, true, false, _&&_}
 use mathlib.Core.List.{List, [], _∷_, _++_}
 use Prim.Native.Nat.{ℕ, _+_, _-_, _^_}
@@ -24,6 +24,7 @@ use Rattle.acceptance.specs.Cutting.{fileLoose}
 use Rattle.operator.specs.Promise.{fileSheet}
 use Rattle.sheet_bytes.specs.Bytes.{sheetOf}
 use Rattle.sheet_bytes.specs.Sheet.{sheetRefusal}
+use Rattle.short_sheet.specs.Short.{plainBytes}
 use Rattle.bundle.specs.Bundle.{bundleRefusal, sheetIn}
 use Rattle.bundle_write.specs.Writing.{sheetsRefusal, sheetsBundle}
 use Rattle.order.specs.Order.{orderAnswer}
@@ -33,7 +34,7 @@ pub data Trial : Type 0 where
   cuts : List ℕ → List ℕ → ℕ → Trial
   -- this file earns this refusal
   fileRefused : List ℕ → ℕ → Trial
-  -- these bytes, read as a sheet, earn this refusal
+  -- these bytes, read as a sheet, earn this refusal, or 0: they are read
   sheetRefused : List ℕ → ℕ → Trial
   -- this list multiplies to an operator with this sheet, and so many cuts that grouped as 2 and 4
   multiplies : List Gate → List ℕ → ℕ → Trial
@@ -129,7 +130,8 @@ tooLong = 255 ∷ replicate 198 1
 -- that reaches into the trailer, also where there is no such sheet; 199 bytes, which are handed back and earn 10; no sheets and three, written; a
 -- sheet cut short, and a first byte for 69; products whose count is the sum of those of their factors, lower by two, and lower by the whole sum: `CH` and
 -- `C`, `CHC` and `C`, `CHC` and its inverse; `Z` on either side of `CHC`; the negative of `C`; distances: of `C` and `CHC`, no more than their counts
--- differ by, of `C` and `CZ`, which a Clifford on the right takes to one another, and of `Z`, a Clifford, and `CHC`
+-- differ by, of `C` and `CZ`, which a Clifford on the right takes to one another, and of `Z`, a Clifford, and `CHC`; pairs of numbers that are listed, the
+-- second one higher and lower, pairs that are not, of different and of equal numbers, and 16, which is no generator
 unfoldable pub trials : List Trial
 trials =
     cuts (file shortFile 0 δ) identitySheet 0 ∷
@@ -211,4 +213,10 @@ trials =
     apart cs chc 1 ∷
     apart cs (timesOperator cs cz) 0 ∷
     apart cz chc 2 ∷
+    sheetRefused (plainBytes (1 ∷ 2 ∷ [])) 0 ∷
+    sheetRefused (plainBytes (7 ∷ 2 ∷ [])) 0 ∷
+    sheetRefused (plainBytes (2 ∷ 1 ∷ [])) 13 ∷
+    sheetRefused (plainBytes (1 ∷ 1 ∷ [])) 13 ∷
+    sheetRefused (plainBytes (16 ∷ [])) 11 ∷
+    sheetRefused (plainBytes (1 ∷ 16 ∷ [])) 11 ∷
     []

@@ -1,4 +1,4 @@
-// Document 01's trial cuts, and the cases of document 02, P1 to P5 and P7 to P11, run through the calls: a line for each case, with the answer. I is the
+// Document 01's trial cuts, and the cases of document 02, P1 to P5 and P7 to P12, run through the calls: a line for each case, with the answer. I is the
 // identity, and the six rows are those of the example of `cut`.
 
 // An entry of −1, in the 16 bits of an operator file.
@@ -133,6 +133,15 @@ fn stored() {
     show_bundle::sheets_case(&[64, 1, 2, 3, 4, 5, 6]);
 }
 
+// Pairs of numbers that are listed, the second one higher and lower; pairs that are not, of different and of equal numbers; and what is no number.
+fn pairs() {
+    show::sheet_case(&[66, 1, 2, 1, 2, 3, 4, 5, 6, 0]);
+    show::sheet_case(&[66, 7, 2, 1, 2, 3, 4, 5, 6, 0]);
+    show::sheet_case(&[66, 2, 1, 1, 2, 3, 4, 5, 6, 0]);
+    show::sheet_case(&[66, 1, 1, 1, 2, 3, 4, 5, 6, 0]);
+    show::sheet_case(&[66, 1, 16, 1, 2, 3, 4, 5, 6, 0]);
+}
+
 fn main() {
     operators();
     limits();
@@ -151,4 +160,5 @@ fn main() {
     show_unitary::cases();
     show_long::cases();
     show_counts::cases();
+    pairs();
 }

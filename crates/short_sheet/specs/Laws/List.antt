@@ -83,13 +83,13 @@ pub in-plain : (n : ℕ) (s : List ℕ) → List·Memᴰ s (plainSheets n) ↔ (
 unfolding plainSheets
 in-plain n s = (
   λ m.
-    let (gs, i, j) = in-parts (λ gs. ifRead (plainBytes gs)) s (sequences n) m in
-    let (e, z) = in-if-read s (plainBytes gs) j in
-    subst (λ x. Plain x × (length (sheetNumbers x) ≡ n)) (sym e) (read-plain gs z, ap length (plain-numbers gs) ∙ in-sequences n gs i .1),
+      let (gs, i, j) = in-parts (λ gs. ifRead (plainBytes gs)) s (sequences n) m in
+      let (e, z) = in-if-read s (plainBytes gs) j in
+      subst (λ x. Plain x × (length (sheetNumbers x) ≡ n)) (sym e) (read-plain gs z, ap length (plain-numbers gs) ∙ in-sequences n gs i .1),
   λ (p, e).
-    let b = plain-bytes p in
-    Memᴰ·cast b (parts-have (λ gs. ifRead (plainBytes gs)) (sequences n) (sequences-have n (sheetNumbers s) (read-numbers s (p .read)) e)
-    (if-read-has (plainBytes (sheetNumbers s)) (subst (λ x. sheetRefusal x ≡ 0) b (p .read)))),
+      let b = plain-bytes p in
+      Memᴰ·cast b (parts-have (λ gs. ifRead (plainBytes gs)) (sequences n) (sequences-have n (sheetNumbers s) (read-numbers s (p .read)) e)
+      (if-read-has (plainBytes (sheetNumbers s)) (subst (λ x. sheetRefusal x ≡ 0) b (p .read)))),
 )
 
 pub in-short : (s : List ℕ) → List·Memᴰ s shortSheets ↔ (Plain s × (length (sheetNumbers s) ≤ 2))

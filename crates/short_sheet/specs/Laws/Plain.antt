@@ -117,9 +117,9 @@ pub plain-read : (gs : List ℕ) → Numbers gs → length gs ≤ largestExponen
 plain-read gs n l = (
   λ z. taken-same (plain-orthogonal gs n) (same-operator-sym (plain-operator gs)) ∙ read-taken (plainBytes gs) z ∙ plain-numbers gs,
   λ e.
-    let P = plainProduct gs in
-    let p = same-proper-orthogonal (listed-same P) (plain-proper gs n e) in
-    let c = cutting (P .exponent) (listed (P .matrix)) (p .orthogonal) .exact in
-    let t = ap length e in
-    subst (λ s. sheetRefusal s ≡ 0) (plain-sheet gs n e) (sheet-read (P .exponent) (listed (P .matrix)) (length-listed (P .matrix)) p (omega arith)),
+      let P = plainProduct gs in
+      let p = same-proper-orthogonal (listed-same P) (plain-proper gs n e) in
+      let c = cutting (P .exponent) (listed (P .matrix)) (p .orthogonal) .exact in
+      let t = ap length e in
+      subst (λ s. sheetRefusal s ≡ 0) (plain-sheet gs n e) (sheet-read (P .exponent) (listed (P .matrix)) (length-listed (P .matrix)) p (omega arith)),
 )

@@ -25,12 +25,15 @@ factored {A} p h =
     let o = p .orthogonal in
     let z = plain-read gs (taken-numbers o) (omega arith) .1 (taken-again o) in
     let l = ap length (plain-numbers gs) in
-    let C = operator 0 (remainingOf A) in
-    (plainBytes gs, C, record {
-      listed = in-short (plainBytes gs) .1 (read-plain gs z, omega arith);
-      clifford = taken-clifford o (p .proper);
-      same = same-operator-trans (taken-product o) (times-same (same-operator-sym (plain-operator gs)) (same-operator-refl C));
-    })
+    let C = operator 0 (remainingOf A) in (
+      plainBytes gs,
+      C,
+      record {
+        listed = in-short (plainBytes gs) .1 (read-plain gs z, omega arith);
+        clifford = taken-clifford o (p .proper);
+        same = same-operator-trans (taken-product o) (times-same (same-operator-sym (plain-operator gs)) (same-operator-refl C));
+      },
+    )
 
 -- ---- in one way
 
@@ -61,9 +64,11 @@ module _ {A C : Operator} {s : List ℕ} (f : Factored A s C) where
 
 unique : {A C D : Operator} {s t : List ℕ} → Factored A s C → Factored A t D → (s ≡ t) × SameOperator C D
 unique {A} {C} {D} {s} {t} f g =
-    let e : s ≡ t = plain-bytes (is-plain f) ∙ ap plainBytes (sym (taken-is f) ∙ taken-is g) ∙ sym (plain-bytes (is-plain g)) in
-    (e, cancel-left (sheet-proper f .orthogonal)
-    (same-operator-trans (same-operator-sym (f .same)) (subst (λ x. SameOperator A (timesOperator (sheetOperator x) D)) (sym e) (g .same))))
+    let e : s ≡ t = plain-bytes (is-plain f) ∙ ap plainBytes (sym (taken-is f) ∙ taken-is g) ∙ sym (plain-bytes (is-plain g)) in (
+      e,
+      cancel-left (sheet-proper f .orthogonal)
+          (same-operator-trans (same-operator-sym (f .same)) (subst (λ x. SameOperator A (timesOperator (sheetOperator x) D)) (sym e) (g .same))),
+    )
 
 pub short-laws : ShortLaws
 short-laws = record {
