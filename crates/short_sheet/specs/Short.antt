@@ -12,6 +12,7 @@ use Rattle.matrix.specs.Matrix.{δ}
 use Rattle.matrix.specs.Operator.{Operator, SameOperator, ProperOrthogonal}
 use Rattle.clifford.specs.Columns.{columnBytes, Clifford}
 use Rattle.residue.specs.Laws.Table.{before}
+use Rattle.reduction.specs.Reduction.{normalForm}
 use Rattle.sheet_bytes.specs.Bytes.{sheetBytes, sheetNumbers, sheetColumns, sheetSign, sheetOperator}
 use Rattle.sheet_bytes.specs.Sheet.{sheetRefusal}
 use Rattle.count.specs.Count.{_·_, countOf}
@@ -71,6 +72,8 @@ pub record ShortLaws : Type 0 where
   pub plain : (n : ℕ) (s : List ℕ) → List·Memᴰ s (plainSheets n) ↔ (Plain s × (length (sheetNumbers s) ≡ n))
   -- every plain sheet of count at most 2 stands in the list, and nothing else
   pub short : (s : List ℕ) → List·Memᴰ s shortSheets ↔ (Plain s × (length (sheetNumbers s) ≤ 2))
+  -- the operator of such a sheet is the product of its generators
+  pub product : {s : List ℕ} → Plain s → SameOperator (sheetOperator s) (normalForm (sheetNumbers s) δ)
   -- "Every operator of count at most 2 is one listed product times one Clifford,"
   pub factored : {A : Operator} → ProperOrthogonal A → countOf A ≤ 2 → (s : List ℕ) × (C : Operator) × Factored A s C
   -- "in exactly one way": the sign is the Clifford's

@@ -17,10 +17,10 @@ use Rattle.matrix.specs.Operator.{Operator, operator, timesOperator, SameOperat
 use Rattle.matrix.specs.Laws.Test.{left, right, T-true, true-T}
 use Rattle.matrix.specs.Laws.Integer.{times-positive, equals-eq, *ℤ-unit-l}
 use Rattle.matrix.specs.Laws.Matrix.{product-cong, product-id-l, same-refl}
-use Rattle.matrix.specs.Laws.Determinant.{det-cong, det-combined, det-identity, combined-cong, combined-product}
+use Rattle.matrix.specs.Laws.Determinant.{det-cong, det-combined, combined-cong, combined-product}
 use Rattle.matrix.specs.Laws.Operator.{same-operator-refl, same-operator-sym, same-operator-trans, times-same, times-assoc, times-orthogonal, same-orthogonal, same-proper}
 use Rattle.matrix.specs.Laws.Array.{everywhere-sound}
-use Rattle.matrix.specs.Laws.Inverse.{identity-orthogonal, identity-times}
+use Rattle.matrix.specs.Laws.Inverse.{identity-orthogonal, identity-proper, identity-times}
 use Rattle.clifford.specs.Columns.{columnsMatrix, arePermutation}
 use Rattle.clifford.specs.Laws.Columns.{permutation-sound, columns-orthogonal}
 use Rattle.residue.specs.Laws.Generator.{generator-orthogonal, generator-product, turned-det}
@@ -173,7 +173,7 @@ factor-positive Cs = omega arith
 
 pub product-proper : (w : List Gate) → Proper (productOf w)
 unfolding productOf
-product-proper [] = record { positive = subst (λ z. pos 0 <ℤ z) (sym (det-identity 6)) (record { lt = tt }) }
+product-proper [] = identity-proper
 product-proper (g ∷ w) = record {
   positive = subst (λ z. pos 0 <ℤ z) (sym (image-det g (productOf w .matrix))) (times-positive (factor g) _ (factor-positive g) (product-proper w .positive));
 }

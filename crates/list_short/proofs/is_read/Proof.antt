@@ -1,10 +1,10 @@
 -- The call's answer says it.
+use mathlib.Core.Path.{sym}
 use native.Mathlib.Omega.{arith}
-use Rattle.list_short.specs.Laws.Output.{read, not-read}
+use Rattle.list_short.specs.Laws.Entry.{read, not-read}
 use borrow.Author.Needs.{needs}
 use Rattle.list_short.proofs.is_read.Statement.{statement}
 use Rattle.list_short.proofs.is_read.Tie as tie
-use mathlib.Core.Path.{sym}
 
 slice-aggregate-sheet-to-operator : tie.Need-slice-aggregate-sheet-to-operator
 slice-aggregate-sheet-to-operator c = search needs

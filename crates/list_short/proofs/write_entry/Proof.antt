@@ -5,7 +5,7 @@ use native.Mathlib.Omega.{arith}
 use denote.Ref.{now}
 use lib.ListN.{length}
 use Rattle.file.specs.Laws.Written.{appended-as, appended-none}
-use Rattle.list_short.specs.Laws.Output.{line-not-read, entry-line, line-most}
+use Rattle.list_short.specs.Laws.Entry.{line-not-read, entry-line, line-most}
 use borrow.Author.Needs.{needs}
 use Rattle.list_short.proofs.write_entry.Statement.{statement}
 use Rattle.list_short.proofs.write_entry.Tie as tie

@@ -7,7 +7,8 @@ use denote.Ref.{now}
 use Rattle.file.specs.Laws.Written.{appended-as}
 use Rattle.short_sheet.specs.Short.{ifRead}
 use Rattle.list_short.specs.Output.{linesOf}
-use Rattle.list_short.specs.Laws.Output.{Begun, begun-none, begun-room, begun-next, begun-all, plain-is, oneOf, ones-done, one-most}
+use Rattle.list_short.specs.Laws.Loop.{Begun, begun-none, begun-room, begun-next, begun-all}
+use Rattle.list_short.specs.Laws.Output.{plain-is, oneOf, ones-done, one-most}
 use borrow.Author.Needs.{needs}
 use Rattle.list_short.proofs.write_ones.Statement.{statement}
 use Rattle.list_short.proofs.write_ones.Tie as tie

@@ -4,7 +4,8 @@ use native.Mathlib.Omega.{arith}
 use denote.Ref.{now}
 use Rattle.file.specs.Laws.Written.{appended-as}
 use Rattle.list_short.specs.Output.{pairsOf}
-use Rattle.list_short.specs.Laws.Output.{Begun, begun-none, begun-room, begun-next, begun-all, twos-done, pairs-most}
+use Rattle.list_short.specs.Laws.Loop.{Begun, begun-none, begun-room, begun-next, begun-all}
+use Rattle.list_short.specs.Laws.Output.{twos-done, pairs-most}
 use borrow.Author.Needs.{needs}
 use Rattle.list_short.proofs.write_twos.Statement.{statement}
 use Rattle.list_short.proofs.write_twos.Tie as tie

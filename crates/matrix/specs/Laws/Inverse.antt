@@ -1,17 +1,23 @@
 -- The transpose of an orthogonal operator is its inverse, so that orthogonal factors can be cancelled, and has the same least exponent. All for
 -- every exponent.
-use mathlib.Core.Path.{sym, ap, _∙_}
+use mathlib.Core.Path.{sym, ap, _∙_, subst}
 use Prim.Native.Nat.{ℕ}
 use native.Mathlib.Omega.{arith}
+use lib.IntN.{pos}
+use lib.Signed.{_<ℤ_}
 use Rattle.matrix.specs.Matrix.{δ, transpose}
-use Rattle.matrix.specs.Operator.{raised, whole, Operator, timesOperator, identity, inverse, SameOperator, Orthogonal, LeastExponent}
+use Rattle.matrix.specs.Operator.{raised, whole, Operator, timesOperator, identity, inverse, SameOperator, Orthogonal, Proper, LeastExponent}
 use Rattle.matrix.specs.Laws.Matrix.{product-id-l, product-id-r, transpose-product, orthogonal-δ}
+use Rattle.matrix.specs.Laws.Determinant.{det-identity}
 use Rattle.matrix.specs.Laws.Operator.{raised-twice, same-operator-refl, same-operator-sym, same-operator-trans, same-operator-of, times-same, times-assoc, inverse-orthogonal}
 
 -- ---- the identity
 
 pub identity-orthogonal : Orthogonal identity
 identity-orthogonal = record { rows = orthogonal-δ 6 }
+
+pub identity-proper : Proper identity
+identity-proper = record { positive = subst (λ z. pos 0 <ℤ z) (sym (det-identity 6)) (record { lt = tt }) }
 
 pub identity-times : (A : Operator) → SameOperator (timesOperator identity A) A
 identity-times A = same-operator-of (timesOperator identity A) A (omega arith) (product-id-l 6 (A .matrix))

@@ -11,10 +11,10 @@ use lib.Seq.{getD-take}
 use borrow.Author.Tests.{eq-eqb, le-leb, le-ltb}
 use Rattle.matrix.specs.List.{sameList}
 use Rattle.matrix.specs.Matrix.{entry, listed}
-use Rattle.matrix.specs.Operator.{operator, SameOperator, Proper, ProperOrthogonal}
+use Rattle.matrix.specs.Operator.{operator, SameOperator, ProperOrthogonal}
 use Rattle.matrix.specs.Laws.Test.{T-true, true-T, same-list-refl, and-left, and-right}
 use Rattle.matrix.specs.Laws.Range.{every-complete}
-use Rattle.matrix.specs.Laws.Operator.{same-operator-sym, same-operator-trans, same-orthogonal, same-proper}
+use Rattle.matrix.specs.Laws.Operator.{same-operator-sym, same-operator-trans, same-orthogonal, same-proper-orthogonal}
 use Rattle.matrix.specs.Laws.Array.{listed-same, length-listed}
 use Rattle.clifford.specs.Columns.{columnsMatrix, isColumnByte, isMinus, arePermutation, isEven, Clifford}
 use Rattle.clifford.specs.Laws.Columns.{Permutation, permutation-sound, permutation-complete, columns-valid, columns-orthogonal, orthogonal-permutation, orthogonal-clifford, clifford-orthogonal}
@@ -135,7 +135,7 @@ module _ (s : List ℕ) (a : Accepted s) where
   exponent-read = exponent-back (sheetLeast s .exponent) (sheetLeast s .matrix)
 
   -- the sign of the determinant of the sheet's Clifford is that of its operator's
-  sheet-proper : Proper (sheetOperator s)
+  pub sheet-proper : ProperOrthogonal (sheetOperator s)
   unfolding sheet
   sheet-proper =
       let A = sheetOperator s in
@@ -144,13 +144,13 @@ module _ (s : List ℕ) (a : Accepted s) where
       let bs = columnsLeft (A .exponent) m in
       let p = left-permutation (A .exponent) m o in
       let even : isEven bs ≡ true = sym (signed-even (signByte bs) bs p) ∙ ap isEven (sym (columns-back (taken (A .exponent) m) bs (p .long)) ∙ ap sheetColumns (a .again)) ∙ a .form .even in
-      same-proper (same-operator-sym (listed-same A)) (record { positive = record { lt = true-T (sym (even-is-proper (A .exponent) m o) ∙ even) } })
+      same-proper-orthogonal (same-operator-sym (listed-same A)) (record { orthogonal = o; proper = record { positive = record { lt = true-T (sym (even-is-proper (A .exponent) m o) ∙ even) } } })
 
   pub sheet-file-accepted : fileRefusal (sheetFile s) ≡ 0
   sheet-file-accepted =
       file.in-form (sheetFile s) (file-in-form (sheetLeast s .exponent) (sheetLeast s .matrix) (sheet-small s a))
       ∙ file.entries-complete (fileOperator (sheetFile s))
-      (subst ProperOrthogonal (sym (sheet-file s a)) (record { orthogonal = least-orthogonal-sheet s a; proper = same-proper (same-operator-sym (sheet-same-least s a)) sheet-proper }))
+      (subst ProperOrthogonal (sym (sheet-file s a)) (same-proper-orthogonal (same-operator-sym (sheet-same-least s a)) sheet-proper))
 
   pub sheet-file-cut : fileSheet (sheetFile s) ≡ s
   sheet-file-cut =

@@ -7,7 +7,7 @@ use native.Mathlib.Omega.{arith}
 use lib.ListN.{length, drop}
 use Rattle.matrix.specs.Range.{firstFrom, tabulate}
 use Rattle.matrix.specs.Matrix.{δ, entry, listed}
-use Rattle.matrix.specs.Operator.{operator, SameOperator, Orthogonal}
+use Rattle.matrix.specs.Operator.{SameOperator}
 use Rattle.matrix.specs.Laws.Operator.{same-operator-sym, same-operator-trans, same-orthogonal, same-proper-orthogonal}
 use Rattle.matrix.specs.Laws.Inverse.{identity-orthogonal}
 use Rattle.matrix.specs.Laws.Array.{length-listed, listed-same}
@@ -15,7 +15,7 @@ use Rattle.file.specs.File.{largestExponent}
 use Rattle.clifford.specs.Columns.{columnsMatrix, columnByte, columnBytes}
 use Rattle.clifford.specs.Laws.Columns.{Permutation, matrix-columns, matrix-permutation, columns-unique}
 use Rattle.reduction.specs.Reduction.{remaining}
-use Rattle.reduction.specs.Laws.NormalForm.{Numbers, normal-exponent, normal-form-same, cutting}
+use Rattle.reduction.specs.Laws.NormalForm.{Numbers, normal-form-same, cutting}
 use Rattle.sheet_bytes.specs.Bytes.{shortest, countByte, signByte, writtenColumns, sheetBytes, sheet, sheetOf, sheetNumbers, sheetColumns, sheetSign, sheetOperator}
 use Rattle.sheet_bytes.specs.Sheet.{sheetRefusal}
 use Rattle.sheet_bytes.specs.Laws.Bytes.{length-bytes, numbers-back, columns-back, sign-back, bytes-operator}
@@ -67,9 +67,6 @@ module _ (s : List ℕ) (z : sheetRefusal s ≡ 0) where
   pub read-numbers : Numbers (sheetNumbers s)
   read-numbers = front-numbers (drop 1 s) _ (numbers-room s (a .form)) (a .form .numbers)
 
-  pub read-orthogonal : Orthogonal (sheetOperator s)
-  read-orthogonal = same-orthogonal (same-operator-sym (listed-same (sheetOperator s))) (sheet-orthogonal s (a .form))
-
   abbrev columns : List ℕ
   columns = columnsLeft (sheetOperator s .exponent) (listed (sheetOperator s .matrix))
 
@@ -97,6 +94,10 @@ plain-bytes {s} p =
     sym (again s z)
     ∙ ap₂ (λ x y. countByte (length gs) ∷ (gs ++ (x ++ (y ∷ [])))) (c ∙ sym written-identity) (t ∙ sym identity-sign)
     ∙ ap plainBytes (read-taken s z)
+
+-- and its operator their product
+pub sheet-product : {s : List ℕ} → Plain s → SameOperator (sheetOperator s) (plainProduct (sheetNumbers s))
+sheet-product {s} p = subst (λ x. SameOperator (sheetOperator x) (plainProduct (sheetNumbers s))) (sym (plain-bytes p)) (plain-operator (sheetNumbers s))
 
 -- ---- which numbers have one
 

@@ -4,17 +4,17 @@ use mathlib.Core.List.{List}
 use Prim.Native.Nat.{ℕ, _≤_}
 use native.Mathlib.Omega.{arith}
 use lib.ListN.{length}
-use Rattle.matrix.specs.Operator.{Operator, operator, timesOperator, SameOperator, Orthogonal, ProperOrthogonal}
+use Rattle.matrix.specs.Operator.{Operator, operator, timesOperator, SameOperator, ProperOrthogonal}
 use Rattle.matrix.specs.Laws.Operator.{same-operator-refl, same-operator-sym, same-operator-trans, same-operator-of, times-same, same-orthogonal, same-proper-orthogonal}
 use Rattle.matrix.specs.Laws.Inverse.{cancel-left}
-use Rattle.clifford.specs.Columns.{Clifford}
 use Rattle.sheet_bytes.specs.Bytes.{sheetNumbers, sheetOperator}
-use Rattle.sheet_bytes.specs.Sheet.{sheetRefusal}
+use Rattle.sheet.specs.Laws.Sheet.{accepted}
+use Rattle.round_trip.specs.Laws.Back.{sheet-proper}
 use Rattle.count.specs.Count.{countOf}
 use Rattle.count.specs.Laws.Group.{group-laws}
 use Rattle.short_sheet.specs.Short.{Plain, plainBytes, Factored, ShortLaws}
-use Rattle.short_sheet.specs.Laws.Taken.{takenOf, taken-same, taken-times, remainingOf, taken-numbers, taken-product, taken-clifford, taken-again, plain-proper}
-use Rattle.short_sheet.specs.Laws.Plain.{plain-numbers, read-plain, plain-operator, read-numbers, read-taken, plain-bytes, plain-read}
+use Rattle.short_sheet.specs.Laws.Taken.{takenOf, taken-same, taken-times, remainingOf, taken-numbers, taken-product, taken-clifford, taken-again}
+use Rattle.short_sheet.specs.Laws.Plain.{plain-numbers, read-plain, plain-operator, read-taken, plain-bytes, sheet-product, plain-read}
 use Rattle.short_sheet.specs.Laws.List.{in-plain, in-short}
 
 -- ---- every operator of count at most 2 is such a product
@@ -41,32 +41,25 @@ module _ {A C : Operator} {s : List ℕ} (f : Factored A s C) where
   is-plain : Plain s
   is-plain = in-short s .0 (f .listed) .0
 
-  sheet-proper : ProperOrthogonal (sheetOperator s)
-  sheet-proper =
-      let gs = sheetNumbers s in
-      let z = is-plain .read in
-      let n = read-numbers s z in
-      let h = in-short s .0 (f .listed) .1 in
-      let b = plain-bytes is-plain in
-      let e = plain-read gs n (omega arith) .0 (subst (λ x. sheetRefusal x ≡ 0) b z) in
-      subst (λ x. ProperOrthogonal (sheetOperator x)) (sym b) (same-proper-orthogonal (same-operator-sym (plain-operator gs)) (plain-proper gs n e))
+  product-proper : ProperOrthogonal (sheetOperator s)
+  product-proper = sheet-proper s (accepted s (is-plain .read))
 
   proper : ProperOrthogonal A
-  proper = same-proper-orthogonal (same-operator-sym (f .same)) (group-laws .product-closed sheet-proper (group-laws .clifford-proper (f .clifford)))
+  proper = same-proper-orthogonal (same-operator-sym (f .same)) (group-laws .product-closed product-proper (group-laws .clifford-proper (f .clifford)))
 
   -- cutting takes the sheet's numbers, since no Clifford on the right changes what it takes
   taken-is : takenOf A ≡ sheetNumbers s
   taken-is =
       let c : SameOperator C (operator 0 (C .matrix)) = same-operator-of C (operator 0 (C .matrix)) (f .clifford .exponent-zero) (λ i j hi hj. refl) in
       taken-same (proper .orthogonal) (same-operator-trans (f .same) (times-same (same-operator-refl (sheetOperator s)) c))
-      ∙ taken-times (sheet-proper .orthogonal) (C .matrix) (same-orthogonal c (group-laws .clifford-proper (f .clifford) .orthogonal))
+      ∙ taken-times (product-proper .orthogonal) (C .matrix) (same-orthogonal c (group-laws .clifford-proper (f .clifford) .orthogonal))
       ∙ read-taken s (is-plain .read)
 
 unique : {A C D : Operator} {s t : List ℕ} → Factored A s C → Factored A t D → (s ≡ t) × SameOperator C D
 unique {A} {C} {D} {s} {t} f g =
     let e : s ≡ t = plain-bytes (is-plain f) ∙ ap plainBytes (sym (taken-is f) ∙ taken-is g) ∙ sym (plain-bytes (is-plain g)) in (
       e,
-      cancel-left (sheet-proper f .orthogonal)
+      cancel-left (product-proper f .orthogonal)
           (same-operator-trans (same-operator-sym (f .same)) (subst (λ x. SameOperator A (timesOperator (sheetOperator x) D)) (sym e) (g .same))),
     )
 
@@ -74,6 +67,7 @@ pub short-laws : ShortLaws
 short-laws = record {
   plain = in-plain;
   short = in-short;
+  product = sheet-product;
   factored = factored;
   unique = unique;
   counted = λ f. (proper f, ap length (taken-is f));

@@ -8,17 +8,15 @@ use Rattle.matrix.specs.Matrix.{Matrix, Same, δ, product, entry, listed}
 use Rattle.matrix.specs.Operator.{raised, Operator, operator, timesOperator, identity, SameOperator, Orthogonal, Proper, ProperOrthogonal}
 use Rattle.matrix.specs.Laws.Matrix.{product-cong, same-refl}
 use Rattle.matrix.specs.Laws.Operator.{same-operator-refl, same-operator-sym, same-operator-trans, same-operator-of, times-same, times-assoc, times-orthogonal, same-orthogonal, same-proper}
-use Rattle.matrix.specs.Laws.Inverse.{identity-orthogonal, identity-times, times-identity, cancel-left}
+use Rattle.matrix.specs.Laws.Inverse.{identity-orthogonal, identity-proper, identity-times, times-identity, cancel-left}
 use Rattle.matrix.specs.Laws.Array.{entry-listed, length-listed, listed-is, listed-same, same-least-form}
 use Rattle.clifford.specs.Columns.{Clifford}
 use Rattle.residue.specs.Generator.{generator}
 use Rattle.reduction.specs.Reduction.{generators, taken, remaining, normalForm}
 use Rattle.reduction.specs.Laws.NormalForm.{Numbers, normal-orthogonal, Cutting, cutting}
 use Rattle.reduction.specs.Laws.Right.{timesRight, taken-right}
-use Rattle.gate.specs.Product.{productOf}
-use Rattle.gate.specs.Laws.Product.{product-proper}
 
--- ---- the generators taken, and the operator that remains
+-- ---- the generators taken, and the matrix that remains
 
 abbrev pub takenOf : Operator → List ℕ
 takenOf A = taken (A .exponent) (listed (A .matrix))
@@ -33,7 +31,7 @@ taken-same {A} {B} o s =
     (same-orthogonal (listed-same A) o) (same-orthogonal (listed-same B) (same-orthogonal s o))
     (same-operator-trans (same-operator-sym (listed-same A)) (same-operator-trans s (listed-same B))))
 
--- the product as an array, and what is taken from it
+-- a signed permutation on the right
 pub taken-times : {A : Operator} → Orthogonal A → (C : Matrix) → Orthogonal (operator 0 C) → takenOf (timesOperator A (operator 0 C)) ≡ takenOf A
 taken-times {A} o C c =
     let k = A .exponent in
@@ -91,10 +89,9 @@ module _ (gs : List ℕ) (n : Numbers gs) (e : takenOf (plainProduct gs) ≡ gs)
   left-same i j hi hj = ap (λ z. z .0) (left-identity .entries i j hi hj)
 
   pub plain-proper : ProperOrthogonal (plainProduct gs)
-  unfolding productOf
   plain-proper =
       let o = plain-orthogonal gs n in
       record {
         orthogonal = o;
-        proper = same-proper (same-operator-sym (listed-same (plainProduct gs))) (cut-of o .proper (same-proper (same-operator-sym left-identity) (product-proper [])));
+        proper = same-proper (same-operator-sym (listed-same (plainProduct gs))) (cut-of o .proper (same-proper (same-operator-sym left-identity) identity-proper));
       }
