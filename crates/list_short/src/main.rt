@@ -9,6 +9,7 @@ ghost use lib.Dec.{eqb};
 ghost use lib.ListN.{length};
 ghost use Rattle.io.specs.Counts.{Counts};
 ghost use Rattle.file.specs.File.{Appended};
+ghost use Rattle.sheet_bytes.specs.Bytes.{shortest};
 ghost use Rattle.sheet_bytes.specs.Sheet.{sheetRefusal};
 ghost use Rattle.short_sheet.specs.Short.{ifRead, plainSheets};
 ghost use Rattle.list_short.specs.Output.{linesOf, pairsOf, shortText};
@@ -27,7 +28,7 @@ fn is_read(sheet: &[u8]) -> bool
 
 // The line of a sheet of at most two numbers, if it is read.
 fn write_entry(sheet: &[u8], out: &mut [u8], at: usize) -> usize
-    requires { ⌜ (8 ≤ length (now sheet)) × (length (now sheet) ≤ 10) × (at + 10 ≤ length (now out)) ⌝ }
+    requires { ⌜ (shortest ≤ length (now sheet)) × (length (now sheet) ≤ shortest + 2) × (at + 10 ≤ length (now out)) ⌝ }
     ensures { λ r. ⌜ Appended (linesOf (ifRead (now (sheet .entry)))) at (now (out .entry)) (now (out .exit)) r ⌝ }
 {
     if is_read(sheet) {

@@ -7,11 +7,11 @@ use mathlib.Core.Path.{_≡_}
 use Prim.Native.Nat.{ℕ, zero, suc, _≤_, _<_}
 use lib.Dec.{eqb}
 use lib.ListN.{length, getD}
+use Rattle.matrix.specs.List.{before}
 use Rattle.matrix.specs.Range.{tabulate}
 use Rattle.matrix.specs.Matrix.{δ}
 use Rattle.matrix.specs.Operator.{Operator, SameOperator, ProperOrthogonal}
 use Rattle.clifford.specs.Columns.{columnBytes, Clifford}
-use Rattle.residue.specs.Laws.Table.{before}
 use Rattle.reduction.specs.Reduction.{normalForm}
 use Rattle.sheet_bytes.specs.Bytes.{sheetBytes, sheetNumbers, sheetColumns, sheetSign, sheetOperator}
 use Rattle.sheet_bytes.specs.Sheet.{sheetRefusal}

@@ -14,28 +14,28 @@ is-read-requires : tie.Need-is-read-requires
 is-read-requires c κs = search needs
 
 sub-count : tie.Need-sub-count
-sub-count c = search needs
+sub-count c = omega arith
 
 cast-t8 : tie.Need-cast-t8
-cast-t8 c = search needs
+cast-t8 c = omega arith
 
 add-t9 : tie.Need-add-t9
-add-t9 c = search needs
+add-t9 c = omega arith
 
 slice-aggregate-write-line : tie.Need-slice-aggregate-write-line
 slice-aggregate-write-line c = search needs
 
 add-write-line : tie.Need-add-write-line
-add-write-line c = search needs
+add-write-line c = omega arith
 
 sub-write-line : tie.Need-sub-write-line
-sub-write-line c = search needs
+sub-write-line c = omega arith
 
 part-write-line-start : tie.Need-part-write-line-start
-part-write-line-start c = search needs
+part-write-line-start c = omega arith
 
 part-write-line-end : tie.Need-part-write-line-end
-part-write-line-end c = search needs
+part-write-line-end c = omega arith
 
 write-line-requires : tie.Need-write-line-requires
 write-line-requires c κs =

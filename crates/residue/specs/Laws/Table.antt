@@ -1,12 +1,13 @@
 -- The table's rule: every splitting of the six rows into three pairs stands in it exactly once, in the order in which document 01 prints
 -- them, which is the order of their numbers read from left to right.
 use mathlib.Core.Path.{_≡_, refl, subst, ap₂}
-use mathlib.Core.Bool.{Bool, true, false, not, _&&_, _||_}
+use mathlib.Core.Bool.{Bool, true, false, not, _&&_}
 use mathlib.Core.List.{List, [], _∷_, map}
 use Prim.Native.Nat.{ℕ, suc, _-_, _<_, _≤_}
 use native.Mathlib.Omega.{arith}
 use lib.Dec.{T, eqb, ltb, eqb→eq, eqb-refl, ltb→lt, lt→ltb}
 use lib.ListN.{getD, List·getD-map}
+use Rattle.matrix.specs.List.{before}
 use Rattle.matrix.specs.Range.{everyFrom, every, firstFrom}
 use Rattle.matrix.specs.Laws.Range.{every-sound, first-in}
 use Rattle.residue.specs.Generator.{table, place, pairRows}
@@ -21,13 +22,6 @@ abbrev pub splits : ℕ → ℕ → ℕ → ℕ → ℕ → ℕ → Bool
 splits a b c d e f =
     ltb 0 a && (ltb a b && (ltb b 7 && (ltb a c && (ltb c d && (ltb d 7 && (ltb c e && (ltb e f && (ltb f 7
     && (not (eqb b c) && (not (eqb b d) && (not (eqb b e) && (not (eqb b f) && (not (eqb d e) && not (eqb d f))))))))))))))
-
--- the first list comes before the second, read from left to right
-abbrev pub before : List ℕ → List ℕ → Bool
-before [] [] = false
-before [] (y ∷ ys) = false
-before (x ∷ xs) [] = false
-before (x ∷ xs) (y ∷ ys) = ltb x y || (eqb x y && before xs ys)
 
 -- generator number a + 1 for each a below n
 pub numbered : (P : ℕ → Bool) (n : ℕ) → every n (λ a. P (suc a)) ≡ true → (g : ℕ) → 1 ≤ g → g ≤ n → T (P g)

@@ -7,7 +7,7 @@ use native.Mathlib.Omega.{arith}
 use lib.Dec.{T, eqb, eqb→eq}
 use lib.ListN.{length, getD}
 use borrow.Author.Tests.{eq-eqb, eqb-true}
-use Rattle.matrix.specs.List.{sameList}
+use Rattle.matrix.specs.List.{sameList, before}
 use Rattle.matrix.specs.Integer.{parity}
 use Rattle.matrix.specs.Range.{everyFrom, firstFrom, tabulate, bits}
 use Rattle.matrix.specs.Matrix.{Matrix, Same, δ, replaced, listed}
@@ -18,7 +18,6 @@ use Rattle.matrix.specs.Laws.Array.{listed-cong}
 use Rattle.file.specs.File.{largestExponent}
 use Rattle.clifford.specs.Columns.{columnByte}
 use Rattle.residue.specs.Generator.{table, place, generator, turned, fits, firstFit}
-use Rattle.residue.specs.Laws.Table.{before}
 use Rattle.residue.specs.Laws.Generator.{generator-product}
 use Rattle.reduction.specs.Reduction.{generators, taken, normalForm}
 use Rattle.reduction.specs.Laws.NormalForm.{Numbers, normal-exponent}
