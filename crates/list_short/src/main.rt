@@ -26,7 +26,7 @@ fn is_read(sheet: &[u8]) -> bool
     }
 }
 
-// The line of a sheet of at most two numbers, if it is read.
+// The line of a sheet of at most two numbers, if it is read: at most ten bytes.
 fn write_entry(sheet: &[u8], out: &mut [u8], at: usize) -> usize
     requires { ⌜ (shortest ≤ length (now sheet)) × (length (now sheet) ≤ shortest + 2) × (at + 10 ≤ length (now out)) ⌝ }
     ensures { λ r. ⌜ Appended (linesOf (ifRead (now (sheet .entry)))) at (now (out .entry)) (now (out .exit)) r ⌝ }

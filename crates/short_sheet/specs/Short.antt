@@ -1,5 +1,6 @@
 -- Every short cut, listed (document 02, P12): the list, and what is true of it; that it is so are the theorems `short-lines` and
--- `short-laws` of `Laws/`. Operators, their product and count, and Cliffords are those of the page crates/count/specs/Count.antt.
+-- `short-laws` of `Laws/`. Operators, their product and count, and Cliffords are those of the page crates/count/specs/Count.antt;
+-- `List·Memᴰ s ss` says that s stands in the list ss.
 use mathlib.Core.Bool.{true, cond}
 use mathlib.Core.List.{List, [], _∷_, _++_, map, flatMap, List·Memᴰ}
 use mathlib.Core.Logic.{_↔_}
@@ -19,7 +20,7 @@ use Rattle.count.specs.Count.{_·_, countOf}
 
 -- ---- the list
 
--- a sheet "whose Clifford is the identity and whose last byte is 0"; that it is one is that it is read
+-- a sheet "whose Clifford is the identity and whose last byte is 0"; bytes are a sheet if they earn none of its refusals
 pub record Plain (s : List ℕ) : Type 0 where
   pub read : sheetRefusal s ≡ 0
   pub clifford : sheetColumns s ≡ columnBytes δ
@@ -47,8 +48,8 @@ unfoldable pub shortSheets : List (List ℕ)
 shortSheets = plainSheets 0 ++ plainSheets 1 ++ plainSheets 2
 
 -- "the count and the generators". Sheets are "ordered by count and then by the numbers" if these are, read from left to right
-abbrev pub figures : List ℕ → List ℕ
-figures s = length (sheetNumbers s) ∷ sheetNumbers s
+abbrev pub orderKey : List ℕ → List ℕ
+orderKey s = length (sheetNumbers s) ∷ sheetNumbers s
 
 -- ---- what is true of it
 
@@ -63,9 +64,9 @@ pub record ShortLines : Type 0 where
   pub none : length (plainSheets 0) ≡ 1
   pub one : length (plainSheets 1) ≡ 15
   pub two : length (plainSheets 2) ≡ 150
-  pub opens : figures (getD (plainSheets 2) 0 []) ≡ 2 ∷ 1 ∷ 2 ∷ []
+  pub opens : orderKey (getD (plainSheets 2) 0 []) ≡ 2 ∷ 1 ∷ 2 ∷ []
   -- it rises strictly, so that no sheet stands in it twice
-  pub rising : (i j : ℕ) → i < j → j < length shortSheets → before (figures (getD shortSheets i [])) (figures (getD shortSheets j [])) ≡ true
+  pub rising : (i j : ℕ) → i < j → j < length shortSheets → before (orderKey (getD shortSheets i [])) (orderKey (getD shortSheets j [])) ≡ true
 
 pub record ShortLaws : Type 0 where
   -- every plain sheet of count n stands among those of count n, and nothing else

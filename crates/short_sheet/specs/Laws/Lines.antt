@@ -1,7 +1,9 @@
 -- "The list has 1, 15 and 150 lines and its length-two part opens with `2 1 2`", and it rises strictly: computed, with a product by turning rows.
 use mathlib.Core.Path.{_≡_, refl, sym, ap, ap₂, _∙_}
-use mathlib.Core.Bool.{Bool, true, cond, _&&_}
-use mathlib.Core.List.{List, [], _∷_, _++_, flatMap, List·Memᴰ, List·Memᴰ·head, List·Memᴰ·tail}
+use mathlib.Core.Logic.{∥∥₁-elim}
+use mathlib.Core.Bool.{Bool, Bool-set, true, cond, _&&_}
+use mathlib.Core.List.{List, [], _∷_, _++_, flatMap}
+use mathlib.Mathlib.Data.List.Basic.{flatMap-congr}
 use Prim.Native.Nat.{ℕ, zero, suc, _≤_, _<_}
 use native.Mathlib.Omega.{arith}
 use lib.Dec.{T, eqb, eqb→eq}
@@ -23,7 +25,7 @@ use Rattle.reduction.specs.Reduction.{generators, taken, normalForm}
 use Rattle.reduction.specs.Laws.NormalForm.{Numbers, normal-exponent}
 use Rattle.sheet_bytes.specs.Bytes.{sheetBytes}
 use Rattle.sheet_bytes.specs.Sheet.{sheetRefusal}
-use Rattle.short_sheet.specs.Short.{plainBytes, sequences, ifRead, plainSheets, shortSheets, figures, ShortLines}
+use Rattle.short_sheet.specs.Short.{plainBytes, sequences, plainSheets, shortSheets, orderKey, ShortLines}
 use Rattle.short_sheet.specs.Laws.Taken.{takenOf, plainProduct}
 use Rattle.short_sheet.specs.Laws.Plain.{plain-read}
 use Rattle.short_sheet.specs.Laws.List.{in-sequences}
@@ -59,34 +61,30 @@ read-is-taken gs n l =
 computed : ℕ → List (List ℕ)
 computed n = flatMap (λ gs. cond (isTaken gs) (plainBytes gs ∷ []) []) (sequences n)
 
-parts-same : {A B : Type 0} (f g : A → List B) (l : List A) → ((a : A) → List·Memᴰ a l → f a ≡ g a) → flatMap f l ≡ flatMap g l
-unfolding flatMap
-parts-same f g [] h = refl
-parts-same f g (a ∷ l) h = ap₂ _++_ (h a (List·Memᴰ·head refl)) (parts-same f g l (λ b m. h b (List·Memᴰ·tail m)))
-
 plain-computed : (n : ℕ) → n ≤ largestExponent → plainSheets n ≡ computed n
 unfolding plainSheets computed
 plain-computed n l =
-    parts-same (λ gs. ifRead (plainBytes gs)) (λ gs. cond (isTaken gs) (plainBytes gs ∷ []) []) (sequences n)
-    (λ gs m. let (r, e) = in-sequences n gs m in ap (λ b. cond b (plainBytes gs ∷ []) []) (read-is-taken gs r (omega arith)))
+    flatMap-congr {l = sequences n}
+    (λ gs m. ap (λ b. cond b (plainBytes gs ∷ []) [])
+    (∥∥₁-elim m (Bool-set (eqb (sheetRefusal (plainBytes gs)) 0) (isTaken gs)) (λ d. let (r, e) = in-sequences n gs d in read-is-taken gs r (omega arith))))
 
 -- ---- strictly rising
 
 isBefore : List ℕ → List (List ℕ) → Bool
 isBefore s [] = true
-isBefore s (t ∷ ss) = before (figures s) (figures t) && isBefore s ss
+isBefore s (t ∷ ss) = before (orderKey s) (orderKey t) && isBefore s ss
 
 isRising : List (List ℕ) → Bool
 isRising [] = true
 isRising (s ∷ ss) = isBefore s ss && isRising ss
 
-before-sound : (s : List ℕ) (ss : List (List ℕ)) → T (isBefore s ss) → (j : ℕ) → j < length ss → T (before (figures s) (figures (getD ss j [])))
+before-sound : (s : List ℕ) (ss : List (List ℕ)) → T (isBefore s ss) → (j : ℕ) → j < length ss → T (before (orderKey s) (orderKey (getD ss j [])))
 unfolding isBefore
 before-sound s [] t j u = absurd (omega arith)
-before-sound s (x ∷ ss) t zero u = left (before (figures s) (figures x)) (isBefore s ss) t
-before-sound s (x ∷ ss) t (suc j) u = before-sound s ss (right (before (figures s) (figures x)) (isBefore s ss) t) j (omega arith)
+before-sound s (x ∷ ss) t zero u = left (before (orderKey s) (orderKey x)) (isBefore s ss) t
+before-sound s (x ∷ ss) t (suc j) u = before-sound s ss (right (before (orderKey s) (orderKey x)) (isBefore s ss) t) j (omega arith)
 
-rising-sound : (ss : List (List ℕ)) → T (isRising ss) → (i j : ℕ) → i < j → j < length ss → T (before (figures (getD ss i [])) (figures (getD ss j [])))
+rising-sound : (ss : List (List ℕ)) → T (isRising ss) → (i j : ℕ) → i < j → j < length ss → T (before (orderKey (getD ss i [])) (orderKey (getD ss j [])))
 unfolding isRising
 rising-sound [] t i j h u = absurd (omega arith)
 rising-sound (s ∷ ss) t i zero h u = absurd (omega arith)
@@ -97,7 +95,7 @@ rising-sound (s ∷ ss) t (suc i) (suc j) h u = rising-sound ss (right (isBefore
 
 abbrev hasLines : List (List ℕ) → List (List ℕ) → List (List ℕ) → Bool
 hasLines none one two =
-    eqb (length none) 1 && (eqb (length one) 15 && (eqb (length two) 150 && (sameList (figures (getD two 0 [])) (2 ∷ 1 ∷ 2 ∷ []) && isRising (none ++ one ++ two))))
+    eqb (length none) 1 && (eqb (length one) 15 && (eqb (length two) 150 && (sameList (orderKey (getD two 0 [])) (2 ∷ 1 ∷ 2 ∷ []) && isRising (none ++ one ++ two))))
 
 it-has : T (hasLines (computed 0) (computed 1) (computed 2))
 unfolding isTaken computed isBefore isRising flatMap sequences sheetBytes parity everyFrom firstFrom tabulate bits δ replaced listed rowMask beforeOdd leastForm columnByte table place fits firstFit generators
@@ -113,7 +111,7 @@ short-lines =
     let t1 = right (eqb (length (plainSheets 0)) 1) _ t in
     let t2 = right (eqb (length (plainSheets 1)) 15) _ t1 in
     let t3 = right (eqb (length (plainSheets 2)) 150) _ t2 in
-    let o = sameList (figures (getD (plainSheets 2) 0 [])) (2 ∷ 1 ∷ 2 ∷ []) in
+    let o = sameList (orderKey (getD (plainSheets 2) 0 [])) (2 ∷ 1 ∷ 2 ∷ []) in
     record {
       none = eqb→eq _ _ (left (eqb (length (plainSheets 0)) 1) _ t);
       one = eqb→eq _ _ (left (eqb (length (plainSheets 1)) 15) _ t1);
