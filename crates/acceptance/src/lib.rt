@@ -1,5 +1,7 @@
 // Operator files taken in: refusals 1 to 5, and the normal form of an accepted operator. The contracts cite specs/.
 
+#![tactic(auto)]
+
 ghost use Rattle.std.specs.Prelude.{◌≡◌, ◌≤◌, ◌^◌};
 ghost use Rattle.matrix.specs.Matrix.{entry};
 ghost use Rattle.matrix.specs.Operator.{operator, Orthogonal};

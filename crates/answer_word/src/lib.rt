@@ -1,5 +1,7 @@
 // An answer as one word of 64 bits. The contracts cite specs/Encoding.antt.
 
+#![tactic(auto)]
+
 ghost use Rattle.std.specs.Prelude.{◌≢◌, ◌≡◌, ◌^◌, ◌<◌};
 ghost use Rattle.bundle.specs.Bundle.{Placed};
 ghost use Rattle.answer_word.specs.Encoding.{packed, answer_parts, cuts_parts, listed_parts, letters_of, synthesis_parts, synthesis_letters, wrote_parts, bytes_of, part_parts, WordOf};

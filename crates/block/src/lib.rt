@@ -1,5 +1,7 @@
 // Blocks of a program, as bytes: refusals 24 and 25. The contracts cite specs/Block.antt.
 
+#![tactic(auto)]
+
 ghost use Rattle.std.specs.Prelude.{◌≡◌, ◌≤◌};
 ghost use Rattle.block.specs.Block.{is_on_two, are_on_two, program_refusal};
 

@@ -1,5 +1,7 @@
 // Sheets taken out of a bundle: refusals 20, 21 and 22. The contracts cite specs/Bundle.antt.
 
+#![tactic(auto)]
+
 ghost use Rattle.std.specs.Prelude.{◌≡◌, ◌+◌, ◌*◌, ◌-◌, ◌<◌, ◌≤◌, length, get_or};
 ghost use Rattle.bundle.specs.Bundle.{bundle_refusal, has_sheets, offset as Bundle·offset, part_of, place_in, Placed, sheet_count, sheet_in, trailer_length};
 

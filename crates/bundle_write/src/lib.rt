@@ -1,5 +1,7 @@
 // Sheets that are stored end to end, written as a bundle: refusals 20, 21 and 6. The contracts cite specs/Writing.antt.
 
+#![tactic(auto)]
+
 ghost use Rattle.std.specs.Prelude.{cond, ◌≡◌, ◌+◌, ◌*◌, ◌<◌, ◌≤◌, length};
 ghost use Rattle.file.specs.File.{Appended};
 ghost use Rattle.bundle.specs.Bundle.{most_sheets, trailer_length, length_at, start_of, two_bytes, offsets, bundle_of};

@@ -1,5 +1,7 @@
 // Signed permutations by their six column bytes. The contracts cite specs/Columns.antt.
 
+#![tactic(auto)]
+
 ghost use Rattle.std.specs.Prelude.{map, ◌≡◌, ◌+◌, ◌<◌, drop, get_or};
 ghost use Rattle.matrix.specs.Matrix.{entry};
 ghost use Rattle.clifford.specs.Columns.{are_column_bytes, column_byte, column_bytes, differs, different, is_column_byte, negated, row_of, signed_byte};

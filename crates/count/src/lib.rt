@@ -1,1 +1,3 @@
 // The laws of the count: theorems in specs/, and no function.
+
+#![tactic(auto)]

@@ -1,5 +1,7 @@
 // Cuts an operator: an operator file on standard input, its count, its sheet and L on standard output.
 
+#![tactic(auto)]
+
 ghost use Rattle.io.specs.Counts.{IsPrefixLen};
 ghost use Rattle.file.specs.File.{Appended};
 ghost use Rattle.cut.specs.Output.{cut_text};

@@ -2,6 +2,8 @@
 // the words of `answer_word`; wrong, and refused there: the count in the bits of a length, a value beside a refusal, a refusal
 // beside the number of bytes written.
 
+#![tactic(auto)]
+
 ghost use Rattle.gate.specs.Promise.{ProductPromise};
 ghost use Rattle.operator.specs.Promise.{SheetPromise, GatesPromise};
 ghost use Rattle.unitary_gates.specs.Promise.{UnitaryPromise};

@@ -1,6 +1,8 @@
 // Operator files of either kind, short or long, read into an operator's 36 entries, and an operator written as the kind that its exponent
 // calls for. The contracts cite specs/File.antt.
 
+#![tactic(auto)]
+
 ghost use Rattle.std.specs.Prelude.{◌≡◌, ◌+◌, ◌*◌, ◌^◌, ◌<◌, ◌≤◌, nat_abs, length};
 ghost use Rattle.matrix.specs.Range.{tabulate};
 ghost use Rattle.file.specs.File.{Appended, Fits, short_file, long_file, bits_of, byte_of, entry_of, exponent_of, file_as, file_matrix, file_of, is_length, kind_for, kind_of, length_for, length_of, long_length, no_operator, short_length, signed_of, two_at, written};

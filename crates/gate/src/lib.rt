@@ -3,6 +3,8 @@
 // Only C can change the exponent. So the Clifford letters since the last C are kept by the columns of their product, and the matrix is
 // touched at C and at the end.
 
+#![tactic(auto)]
+
 ghost use Rattle.std.specs.Prelude.{◌≡◌, true, [], ◌≤◌, length};
 ghost use Rattle.matrix.specs.Matrix.{entry};
 ghost use Rattle.matrix.specs.Operator.{operator, Orthogonal};

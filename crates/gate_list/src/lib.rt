@@ -1,5 +1,7 @@
 // The gate list of a normal form, written. The contracts cite specs/List.antt and specs/Stretches.antt.
 
+#![tactic(auto)]
+
 ghost use Rattle.std.specs.Prelude.{◌≡◌, true, ◌+◌, ◌*◌, ◌≤◌, length, take};
 ghost use Rattle.clifford.specs.Columns.{are_column_bytes};
 ghost use Rattle.reduction.specs.Laws.NormalForm.{Numbers};

@@ -1,5 +1,7 @@
 // Gaussian integers, far from overflow. The contracts cite specs/Gaussian.antt.
 
+#![tactic(auto)]
+
 ghost use Rattle.std.specs.Prelude.{◌≡◌, ◌^◌};
 ghost use Rattle.gaussian.specs.Gaussian.{Within, ◌⊕◌, ◌⊖◌, ◌⊗◌, conj};
 

@@ -1,1 +1,3 @@
 // How the rows of an orthogonal operator group: theorems in specs/, and no function.
+
+#![tactic(auto)]

@@ -1,5 +1,7 @@
 // The layers of a program's blocks: refusals 24, 25 and 6. The contracts cite specs/.
 
+#![tactic(auto)]
+
 ghost use Rattle.std.specs.Prelude.{◌≡◌, ◌+◌, max, ◌<◌, ◌≤◌, length, get_or, set};
 ghost use Rattle.file.specs.File.{written};
 ghost use Rattle.block.specs.Block.{most_blocks, qubits, block_count, program_refusal};

@@ -1,6 +1,8 @@
 // Gives the blocks of a program their layers: the blocks on standard input, two bytes each; how many layers there are and the layer of each block on
 // standard output.
 
+#![tactic(auto)]
+
 ghost use Rattle.io.specs.Counts.{IsPrefixLen};
 ghost use Rattle.file.specs.File.{Appended};
 ghost use Rattle.layer_blocks.specs.Output.{layer_text};

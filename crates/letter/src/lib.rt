@@ -1,6 +1,8 @@
 // The letters of a gate list, and products of signed permutations by the bytes of their columns.
 // The contracts cite the definitions of specs/Gate.antt and specs/Composition.antt.
 
+#![tactic(auto)]
+
 ghost use Rattle.std.specs.Prelude.{◌≡◌, true};
 ghost use Rattle.clifford.specs.Columns.{is_column_byte, are_column_bytes};
 ghost use Rattle.letter.specs.Gate.{letter, gate_of, is_cs};

@@ -2,6 +2,8 @@
 //
 // A function takes the place where its line begins and returns the place after it; the other bytes stay.
 
+#![tactic(auto)]
+
 ghost use Rattle.std.specs.Prelude.{◌+◌, ◌≤◌, length};
 ghost use Rattle.file.specs.File.{Appended};
 ghost use Rattle.text.specs.Text.{count_line, sheet_line, loose_line, sign_line, omega_line, refused_line, order_line, layers_line, layer_line, gates_line, list_lines};

@@ -1,6 +1,8 @@
 // Lists an operator's gates: an operator file on standard input, its count, a gate list, L and the list's sign on
 // standard output.
 
+#![tactic(auto)]
+
 ghost use Rattle.io.specs.Counts.{IsPrefixLen};
 ghost use Rattle.list_gates.specs.Output.{Printed};
 

@@ -2,6 +2,8 @@
 //
 // A function that writes takes the place where it begins and returns the place after what it wrote; the other bytes stay.
 
+#![tactic(auto)]
+
 ghost use Rattle.std.specs.Prelude.{◌≡◌, ◌+◌, ◌≤◌, eqb, length};
 ghost use Rattle.io.specs.Counts.{IsPrefixLen};
 ghost use Rattle.file.specs.File.{Appended};

@@ -1,5 +1,7 @@
 // Lists a unitary's gates: its 65 bytes on standard input, its count, a gate list, L and the power of ω on standard output.
 
+#![tactic(auto)]
+
 ghost use Rattle.io.specs.Counts.{IsPrefixLen};
 ghost use Rattle.list_unitary.specs.Output.{Printed};
 

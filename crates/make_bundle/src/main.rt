@@ -1,5 +1,7 @@
 // Makes a bundle: sheets end to end on standard input, as labs store them, and their bundle on standard output.
 
+#![tactic(auto)]
+
 ghost use Rattle.std.specs.Prelude.{◌≡◌, length};
 ghost use Rattle.io.specs.Counts.{IsPrefixLen};
 ghost use Rattle.file.specs.File.{Appended};

@@ -1,6 +1,8 @@
 // Exact arithmetic on a matrix of 36 whole numbers, row by row.
 // The contracts cite the definitions of specs/Array.antt; entries of at most 2^30 in size leave room for the sum of six products.
 
+#![tactic(auto)]
+
 ghost use Rattle.std.specs.Prelude.{◌≡◌, ◌<◌, ◌≤◌, ◌^◌, pos, nat_abs, length, get_or};
 ghost use Rattle.matrix.specs.Integer.{parity};
 ghost use Rattle.matrix.specs.Matrix.{entry, listed, row_product};

@@ -1,5 +1,7 @@
 // Multiplies gates: a gate list on standard input, with or without a line feed behind it, and its operator file on standard output.
 
+#![tactic(auto)]
+
 ghost use Rattle.io.specs.Counts.{IsPrefixLen};
 ghost use Rattle.file.specs.File.{Appended};
 ghost use Rattle.gate.specs.Reading.{reading};

@@ -1,5 +1,7 @@
 // Multiplies a sheet: its bytes on standard input, and its operator file on standard output.
 
+#![tactic(auto)]
+
 ghost use Rattle.io.specs.Counts.{IsPrefixLen};
 ghost use Rattle.file.specs.File.{Appended};
 ghost use Rattle.multiply_sheet.specs.Output.{output_of};

@@ -1,6 +1,8 @@
 // The power of ω by which a gate list gives a unitary, found modulo 17: the list's letters are undone one after the other on the first column of the
 // unitary, and what is left is a power of 2. The contracts cite specs/Modular.antt.
 
+#![tactic(auto)]
+
 ghost use Rattle.std.specs.Prelude.{List, map, ◌≡◌, ◌+◌, ◌*◌, ◌%◌, ◌^◌, ◌<◌, ◌≤◌, length, take};
 ghost use Rattle.letter.specs.declared.Gate.{Gate};
 ghost use Rattle.letter.specs.Gate.{letter};

@@ -1,5 +1,7 @@
 // Operator files to sheets and gate lists: refusals 1 to 6. The contracts cite specs/Promise.antt.
 
+#![tactic(auto)]
+
 ghost use Rattle.std.specs.Prelude.{◌≡◌, ◌+◌, ◌≤◌, length, take};
 ghost use Rattle.matrix.specs.Matrix.{entry};
 ghost use Rattle.file.specs.File.{written};

@@ -1,5 +1,7 @@
 // States to order. The contracts cite specs/Order.antt.
 
+#![tactic(auto)]
+
 ghost use Rattle.std.specs.Prelude.{◌≡◌};
 ghost use Rattle.order.specs.Order.{nearest, order_answer};
 

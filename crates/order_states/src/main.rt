@@ -1,5 +1,7 @@
 // Says how many CS states to order: the arguments are the count and the spoilage in thousandths, in decimal.
 
+#![tactic(auto)]
+
 ghost use Rattle.io.specs.Counts.{IsPrefixLen};
 ghost use Rattle.file.specs.File.{Appended};
 ghost use Rattle.order.specs.Order.{order_answer};

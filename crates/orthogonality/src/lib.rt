@@ -1,5 +1,7 @@
 // Whether an operator is orthogonal, and whether its entries are in range. The contracts cite specs/Array.antt of `matrix`.
 
+#![tactic(auto)]
+
 ghost use Rattle.std.specs.Prelude.{◌≡◌, ◌<◌, ◌≤◌, ◌^◌, pos};
 ghost use Rattle.matrix.specs.Matrix.{entry};
 ghost use Rattle.matrix.specs.Array.{Bounded, orthogonal_at, is_orthogonal, is_within};

@@ -1,5 +1,7 @@
 // Gate lists written as OpenQASM 2.0 text (document 02, P8): refusals 7, 8 and 6. The contracts cite specs/.
 
+#![tactic(auto)]
+
 ghost use Rattle.std.specs.Prelude.{◌≡◌, ◌+◌, ◌≤◌, length};
 ghost use Rattle.file.specs.File.{Appended};
 ghost use Rattle.letter.specs.Gate.{gate_of};

@@ -1,5 +1,7 @@
 // Gate lists read from OpenQASM 2.0 text (document 02, P8): refusals 23, 7 and 6. The contracts cite specs/ and those of `qasm`.
 
+#![tactic(auto)]
+
 ghost use Rattle.std.specs.Prelude.{map, ◌≡◌, ◌≤◌, length};
 ghost use Rattle.file.specs.File.{written};
 ghost use Rattle.letter.specs.Gate.{letter};

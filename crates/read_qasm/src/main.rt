@@ -1,5 +1,7 @@
 // Reads OpenQASM 2.0 text: the text on standard input, and its letters on standard output.
 
+#![tactic(auto)]
+
 ghost use Rattle.std.specs.Prelude.{◌++◌, map, ◌≡◌, ◌+◌, ◌-◌, ◌≤◌, length, take, drop};
 ghost use Rattle.io.specs.Counts.{IsPrefixLen};
 ghost use Rattle.file.specs.File.{Appended};

@@ -1,5 +1,7 @@
 // The fifteen generators, and which of them a matrix's odd entries call for. The contracts cite specs/Generator.antt.
 
+#![tactic(auto)]
+
 ghost use Rattle.std.specs.Prelude.{◌≡◌, ◌≤◌};
 ghost use Rattle.matrix.specs.Range.{tabulate};
 ghost use Rattle.matrix.specs.Matrix.{entry};

@@ -1,5 +1,7 @@
 // Sheets read into operator files: refusals 10, 16, 11, 12, 15, 13 and 6. The contracts cite specs/Promise.antt.
 
+#![tactic(auto)]
+
 ghost use Rattle.std.specs.Prelude.{true, ◌≡◌, ◌+◌, ◌≤◌, length, get_or, take};
 ghost use Rattle.matrix.specs.List.{same_list};
 ghost use Rattle.matrix.specs.Range.{every};

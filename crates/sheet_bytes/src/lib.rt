@@ -1,5 +1,7 @@
 // A sheet's bytes, written one at a time, and tested: refusals 10, 16, 11, 12 and 15. The contracts cite specs/Bytes.antt and specs/Sheet.antt.
 
+#![tactic(auto)]
+
 ghost use Rattle.std.specs.Prelude.{true, not, cond, ◌≡◌, ◌+◌, ◌≤◌, ◌<◌, length, get_or, take};
 ghost use Rattle.matrix.specs.Range.{every};
 ghost use Rattle.matrix.specs.Matrix.{entry};

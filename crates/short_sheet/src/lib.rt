@@ -1,1 +1,3 @@
 // The short sheets: theorems in specs/, and no function.
+
+#![tactic(auto)]

@@ -1,5 +1,7 @@
 // A line for a call: what is handed in, and what it answers. Those of gate lists are in `show_gates`.
 
+#![tactic(auto)]
+
 use file::Answer;
 use operator::Cuts;
 

@@ -1,5 +1,7 @@
 // A line for a sheet that is taken out of a bundle, and for a bundle that is made.
 
+#![tactic(auto)]
+
 use file::{Answer, Wrote};
 
 // A bundle and the number of a sheet, by the sheet.

@@ -1,5 +1,7 @@
 // Lines for the laws of the count (document 02, P11): two gate lists, their counts, and the count of their product.
 
+#![tactic(auto)]
+
 use file::Answer;
 
 // Lists that are parted into two factors.

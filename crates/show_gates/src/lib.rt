@@ -1,5 +1,7 @@
 // A line for a gate list that is read or handed out.
 
+#![tactic(auto)]
+
 use file::Answer;
 use operator::Listed;
 

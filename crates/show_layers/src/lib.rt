@@ -1,5 +1,7 @@
 // Lines for programs (document 02, P13): each with the number of layers and the layer of each block that the call answers, or with its refusal.
 
+#![tactic(auto)]
+
 use file::Answer;
 
 // The answer for a program, where the buffer holds bytes that are no layers.

@@ -1,6 +1,8 @@
 // Lines for the two kinds of operator file (document 02, P10): long files of small operators, the limits of either kind, and gate lists whose
 // product needs a long file.
 
+#![tactic(auto)]
+
 // The long files of the identity, of the six rows and of 2^30 times the identity: a row a line after the exponent, four bytes an entry.
 const IDENTITY: [u8; file::LONG_LENGTH] = *b"\0\
 \x01\0\0\0\0\0\0\0\0\0\0\0\0\0\0\0\0\0\0\0\0\0\0\0\

@@ -1,5 +1,7 @@
 // Lines for gate lists that are written as OpenQASM 2.0 text, and for texts that are read.
 
+#![tactic(auto)]
+
 use file::{Answer, Wrote};
 
 // A gate list, by its text.

@@ -1,5 +1,7 @@
 // Lines for unitaries: each with the count, L, the power of ω and the gate list that the call for it answers, or with its refusal.
 
+#![tactic(auto)]
+
 use file::Answer;
 use unitary_gates::Synthesis;
 

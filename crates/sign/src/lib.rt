@@ -1,5 +1,7 @@
 // The sign of a signed permutation, by its six column bytes. The contracts cite specs/Columns.antt of `clifford`.
 
+#![tactic(auto)]
+
 ghost use Rattle.std.specs.Prelude.{map, ◌≡◌, ◌+◌, ◌<◌, drop, get_or};
 ghost use Rattle.clifford.specs.Columns.{below, inversions, is_even, minuses, row_of};
 

@@ -1,5 +1,7 @@
 // The six-by-six form of a unitary, up to sign. The contracts cite specs/Places.antt and specs/Form.antt of `unitary`.
 
+#![tactic(auto)]
+
 ghost use Rattle.std.specs.Prelude.{◌≡◌, ◌-◌, ◌^◌, ◌<◌, ◌≤◌, pos};
 ghost use Rattle.matrix.specs.Integer.{equals};
 ghost use Rattle.gaussian.specs.Gaussian.{Within, ◌⊗◌, product};

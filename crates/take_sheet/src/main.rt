@@ -1,5 +1,7 @@
 // Takes a sheet out of a bundle: the bundle on standard input, the number of the sheet, from 0, as the argument, and the sheet on standard output.
 
+#![tactic(auto)]
+
 ghost use Rattle.std.specs.Prelude.{[], ◌∷◌, ◌++◌, ◌≡◌, ◌≤◌, length};
 ghost use Rattle.io.specs.Counts.{IsPrefixLen};
 ghost use Rattle.file.specs.File.{Appended};

@@ -1,5 +1,7 @@
 // Text read: decimal numbers, and what stands before a line feed. The contracts cite specs/Text.antt.
 
+#![tactic(auto)]
+
 ghost use Rattle.std.specs.Prelude.{◌≡◌};
 ghost use Rattle.text_read.specs.Text.{capped, number_of, without_line_feed};
 

@@ -1,5 +1,7 @@
 // Products on the right, with a generator or a Clifford. The contracts cite specs/Times.antt.
 
+#![tactic(auto)]
+
 ghost use Rattle.std.specs.Prelude.{◌≡◌, true, ℕ, ◌^◌, ◌≤◌, ◌<◌, length, get_or};
 ghost use Rattle.matrix.specs.Matrix.{δ, entry, listed, product, replaced};
 ghost use Rattle.matrix.specs.Array.{Bounded};

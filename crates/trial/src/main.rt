@@ -1,6 +1,8 @@
 // Document 01's trial cuts, and the cases of document 02, P1 to P5 and P7 to P12, run through the calls: a line for each case, with the answer. I is the
 // identity, and the six rows are those of the example of `cut`.
 
+#![tactic(auto)]
+
 // An entry of −1, in the 16 bits of an operator file.
 const MINUS_ONE: u16 = 65535;
 

@@ -1,5 +1,7 @@
 // A unitary's 65 bytes read and tested: refusals 17, 18 and 19. The contracts cite specs/Unitary.antt.
 
+#![tactic(auto)]
+
 ghost use Rattle.std.specs.Prelude.{◌≡◌, ◌^◌, ◌<◌, ◌≤◌, length};
 ghost use Rattle.gaussian.specs.Gaussian.{Within, conj, norm_of, product, adjoint};
 ghost use Rattle.unitary.specs.Unitary.{matrix_of};

@@ -1,5 +1,7 @@
 // Unitaries to gate lists: refusals 17, 18, 19 and 6. The contracts cite specs/Promise.antt.
 
+#![tactic(auto)]
+
 ghost use Rattle.unitary_gates.specs.Promise.{UnitaryPromise};
 
 // What the call answers: the count with the number of letters written, L and the power of ω, or the refusal's number.

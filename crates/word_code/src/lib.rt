@@ -1,5 +1,7 @@
 // Words as numbers, written letter by letter. The contracts cite specs/Code.antt.
 
+#![tactic(auto)]
+
 ghost use Rattle.std.specs.Prelude.{List, ◌≡◌, ◌+◌, ◌≤◌, length};
 ghost use Rattle.letter.specs.declared.Gate.{Gate};
 ghost use Rattle.letter.specs.Written.{Written};

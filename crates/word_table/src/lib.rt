@@ -1,5 +1,7 @@
 // The tables of words, and the word of a Clifford written from them. The contracts cite the definitions of `word` and `word_code`.
 
+#![tactic(auto)]
+
 ghost use Rattle.std.specs.Prelude.{[], ◌≡◌, ◌+◌, ◌<◌, ◌≤◌, length, get_or};
 ghost use Rattle.letter.specs.Written.{Written};
 ghost use Rattle.word.specs.Word.{part_words, rotation_words, on_qubit, rotations_of, parts_of, clifford_word, word_sign};

@@ -1,5 +1,7 @@
 // Writes a gate list as OpenQASM 2.0 text: the list on standard input, with or without a line feed behind it, and the text on standard output.
 
+#![tactic(auto)]
+
 ghost use Rattle.io.specs.Counts.{IsPrefixLen};
 ghost use Rattle.file.specs.File.{Appended};
 ghost use Rattle.text_read.specs.Text.{without_line_feed};

@@ -48,7 +48,7 @@ halve {b} {x} {y} s = record { is = rw s.is; le = let h = s.le in let e = nat_ab
 
 -- a call's result of type i64, stored and read back
 pub kept : {z : ℤ} → mag z < 2 ^ 63 → to_z w64 (of_z w64 z) ≡ z
-kept h = to_z-of_z (record { sfits = h })
+kept h = to_z-of_z {w = w64} (record { sfits = h })
 
 -- the test `x == y` of two signed numbers compares their bits
 pub same_bits : {x y : ℤ} → mag x < 2 ^ 63 → mag y < 2 ^ 63 → of_z w64 x ≡ of_z w64 y → x ≡ y

@@ -1,0 +1,41 @@
+use mathlib.Core.Path.{◌≡◌, ◌∙◌}
+use Prim.Native.Nat.{ℕ, ◌+◌, ◌*◌, ◌-◌, ◌^◌, ◌≤◌, ◌<◌}
+use native.Mathlib.Numerals.{add-one}
+use native.Mathlib.Omega.{arith}
+use lib.Dec.{lit<}
+use lib.IntN.{ℤ, ◌+ℤ◌, ◌*ℤ◌}
+use mathlib.Core.List.{List}
+use borrow.Author.Rules.{rules}
+use mir.Syntax.{w64}
+use mir.Val.{to_z, of_z}
+use Rattle.matrix.specs.Range as range
+use Rattle.matrix.specs.Matrix.{entry}
+use Rattle.matrix.specs.Array.{Bounded}
+use Rattle.matrix.specs.Laws.Integer.{nat_abs_mul_le}
+use Rattle.matrix.specs.Laws.Sum.{sum_bound}
+use Rattle.matrix.specs.Laws.Machine.{Sized, fits, again, stored, add, mul}
+use Rattle.matrix.proofs.row_product.Invariants.{term, term_bound, product, so_far, next}
+use Rattle.matrix.proofs.row_product.Goals as goal
+
+pub loop-c-init : goal.loop-c-init
+unfolding range.sum
+loop-c-init c = search rules
+
+pub overflow_mul-sum-in-loop-c-2 : goal.overflow_mul-sum-in-loop-c-2
+overflow_mul-sum-in-loop-c-2 c =
+    let a = c.args in
+    let p = c.requires in
+    fits (product a.m.now a.i a.j c.loop-c.c c.loop-c.sum-bits p.0 p.1 c.loop-c-test.true p.2 c.loop-c.invariant.1) (lit< tt)
+
+pub overflow_add-sum-in-loop-c-2 : goal.overflow_add-sum-in-loop-c-2
+overflow_add-sum-in-loop-c-2 c =
+    let a = c.args in
+    let p = c.requires in
+    fits (next a.m.now a.i a.j c.loop-c.c c.loop-c.sum-bits p.0 p.1 c.loop-c-test.true p.2 c.loop-c.invariant.1) (omega arith)
+
+pub loop-c-preserved : goal.loop-c-preserved
+unfolding range.sum
+loop-c-preserved c =
+    let a = c.args in
+    let p = c.requires in
+    (search rules, rw add-one (again (next a.m.now a.i a.j c.loop-c.c c.loop-c.sum-bits p.0 p.1 c.loop-c-test.true p.2 c.loop-c.invariant.1) (omega arith)).is)

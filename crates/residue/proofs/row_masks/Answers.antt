@@ -1,0 +1,13 @@
+use mathlib.Core.Path.{◌≡◌, refl}
+use Prim.Native.Nat.{◌-◌, ◌≤◌}
+use native.Mathlib.Omega.{arith}
+use Rattle.matrix.specs.Matrix.{entry}
+use Rattle.matrix.specs.Array.{row_mask}
+use Rattle.matrix.specs.Laws.Range.{Filled, filled_none, filled_more, filled_all}
+use borrow.Author.Rules.{rules}
+use Rattle.residue.proofs.row_masks.Goals as goal
+
+pub returns : goal.returns
+returns c =
+    let e : c.loop-r.r ≡ 6 = omega arith in
+    filled_all _ _ _ 6 _ (rw e at c.loop-r.invariant.1) refl
