@@ -11,6 +11,7 @@ ghost use Rattle.acceptance.specs.Cutting.{CutAs, CutOf};
 
 // What an operator file gives: the number of a refusal, or 0 and the normal form.
 #[derive(Drop)]
+#[derive(Clone, Copy)]
 pub struct Cut {
     pub refusal: u8,
     pub count: u8,

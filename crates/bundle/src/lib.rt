@@ -15,6 +15,7 @@ const ABOVE_LENGTH: u8 = 56;
 
 // Where a sheet stands in a bundle: the place of its first byte and its length, or the refusal's number.
 #[derive(Drop)]
+#[derive(Clone, Copy)]
 pub enum Part {
     At { start: usize, length: usize },
     Refused(u8),

@@ -14,6 +14,7 @@ pub const LONGEST_BUNDLE: usize = bundle::MOST_SHEETS * (sheet_bytes::LONGEST + 
 
 // How many whole sheets stand end to end from the front on, and where they end.
 #[derive(Drop)]
+#[derive(Clone, Copy)]
 struct Stored {
     count: usize,
     end: usize,

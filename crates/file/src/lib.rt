@@ -19,6 +19,7 @@ pub const LARGEST_EXPONENT: u8 = 60;
 
 // What a call answers (document 01): "the count or the refusal's number, never both".
 #[derive(Drop)]
+#[derive(Clone, Copy)]
 pub enum Answer {
     Count(u8),
     Refused(u8),
@@ -26,6 +27,7 @@ pub enum Answer {
 
 // What a call that writes as many bytes as its input calls for answers: how many these are, or the refusal's number.
 #[derive(Drop)]
+#[derive(Clone, Copy)]
 pub enum Wrote {
     Bytes(usize),
     Refused(u8),
@@ -33,6 +35,7 @@ pub enum Wrote {
 
 // What reading a gate list or a sheet gives: the number of a refusal, or 0 and an operator at its least exponent.
 #[derive(Drop)]
+#[derive(Clone, Copy)]
 pub struct Read {
     pub refusal: u8,
     pub exponent: u8,

@@ -20,6 +20,7 @@ use letter::Letter;
 
 // A byte behind Clifford letters: whether it is one more of them, and the columns of their product.
 #[derive(Drop)]
+#[derive(Clone, Copy)]
 pub struct Composed {
     pub clifford: bool,
     pub columns: [u8; 6],
@@ -43,6 +44,7 @@ fn compose_byte(columns: [u8; 6], b: u8) -> Composed
 
 // The Clifford letters from a place on: the columns of their product, and the place after them.
 #[derive(Drop)]
+#[derive(Clone, Copy)]
 pub struct Stretch {
     pub columns: [u8; 6],
     pub next: usize,

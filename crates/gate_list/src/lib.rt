@@ -298,6 +298,7 @@ const CS: usize = 3;
 
 // How many letters a list that is written has, and its sign.
 #[derive(Drop)]
+#[derive(Clone, Copy)]
 pub struct List {
     pub letters: usize,
     pub sign: u8,

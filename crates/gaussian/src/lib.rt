@@ -7,6 +7,7 @@ ghost use Rattle.gaussian.specs.Gaussian.{Within, ◌⊕◌, ◌⊖◌, ◌⊗�
 
 // re + im i
 #[derive(Drop)]
+#[derive(Clone, Copy)]
 pub struct Gaussian {
     pub re: i64,
     pub im: i64,

@@ -10,6 +10,7 @@ ghost use Rattle.letter.specs.Composition.{image_of, composed, composed_gate};
 
 // A letter of a gate list (document 01, "Gate images").
 #[derive(Drop)]
+#[derive(Clone, Copy)]
 pub enum Gate {
     // H: H, first qubit
     H1,
@@ -27,6 +28,7 @@ pub enum Gate {
 
 // What a byte of a gate list is.
 #[derive(Drop)]
+#[derive(Clone, Copy)]
 pub enum Letter {
     Is(Gate),
     Unknown,

@@ -23,6 +23,7 @@ fn write_sheet(count: u8, numbers: [u8; 60], columns: [u8; 6], out: &mut [u8])
 
 // What the call for a sheet answers: the count with L, or the refusal's number.
 #[derive(Drop)]
+#[derive(Clone, Copy)]
 pub enum Cuts {
     Taken { count: u8, loose: u8 },
     Refused(u8),
@@ -52,6 +53,7 @@ pub fn operator_to_sheet(bytes: &[u8], out: &mut [u8]) -> Cuts
 
 // What the call for a gate list answers: the count with the number of letters written, L and the sign, or the refusal's number.
 #[derive(Drop)]
+#[derive(Clone, Copy)]
 pub enum Listed {
     Letters {
         count: u8,

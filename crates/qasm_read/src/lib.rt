@@ -13,6 +13,7 @@ use letter::Gate;
 
 // What stands at a place of a text: a statement, its gate and the place after it, or none.
 #[derive(Drop)]
+#[derive(Clone, Copy)]
 enum Line {
     Statement(Gate, usize),
     Unknown,
@@ -20,6 +21,7 @@ enum Line {
 
 // Statements that stand one after the other: how many, and the place after them.
 #[derive(Drop)]
+#[derive(Clone, Copy)]
 pub struct Statements {
     pub count: usize,
     pub end: usize,

@@ -14,6 +14,7 @@ pub const MAX_GENERATORS: usize = 60;
 
 // What one cut gives: the generator's number, whether the rows grouped as 2 and 4, and the matrix that is left.
 #[derive(Drop)]
+#[derive(Clone, Copy)]
 pub struct Step {
     pub number: u8,
     pub loose: bool,
@@ -22,6 +23,7 @@ pub struct Step {
 
 // What a reduction gives: the generators' numbers, of which the first `count` count, how many of these cuts were loose, and the matrix that remains.
 #[derive(Drop)]
+#[derive(Clone, Copy)]
 pub struct Normal {
     pub count: u8,
     pub loose: u8,

@@ -122,6 +122,7 @@ fn form_entry(n: &[i64; 32], r: usize, c: usize) -> Gaussian
 
 // All entries, twice, by their parts.
 #[derive(Drop)]
+#[derive(Clone, Copy)]
 struct Parts {
     re: [i64; 36],
     im: [i64; 36],
@@ -170,6 +171,7 @@ fn is_zero(m: &[i64; 36]) -> bool
 
 // An operator: its exponent and its matrix, row by row.
 #[derive(Drop)]
+#[derive(Clone, Copy)]
 pub struct Form {
     pub exponent: u8,
     pub matrix: [i64; 36],

@@ -10,6 +10,7 @@ pub const LARGEST_NUMBER: u64 = 1000000;
 
 // What bytes are, read as a decimal number.
 #[derive(Drop)]
+#[derive(Clone, Copy)]
 pub enum Number {
     Is(u64),
     Unknown,

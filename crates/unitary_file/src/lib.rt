@@ -17,6 +17,7 @@ pub const LARGEST_UNITARY: u8 = 29;
 
 // What the bytes give: the number of a refusal, or 0 with the exponent and the entries, row by row, real then imaginary part.
 #[derive(Drop)]
+#[derive(Clone, Copy)]
 pub struct Entries {
     pub refusal: u8,
     pub exponent: u8,

@@ -6,6 +6,7 @@ ghost use Rattle.unitary_gates.specs.Promise.{UnitaryPromise};
 
 // What the call answers: the count with the number of letters written, L and the power of ω, or the refusal's number.
 #[derive(Drop)]
+#[derive(Clone, Copy)]
 pub enum Synthesis {
     Letters {
         count: u8,

@@ -67,6 +67,7 @@ fn write_parts(columns: [u8; 6], out: &mut [u8], at: usize) -> usize
 
 // Where a word that is written ends, and its sign.
 #[derive(Drop)]
+#[derive(Clone, Copy)]
 pub struct Word {
     pub next: usize,
     pub sign: u8,

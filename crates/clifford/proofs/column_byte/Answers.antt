@@ -53,4 +53,4 @@ returns c =
     let q = c.args.c in
     let z : 6 - c.loop-r.r ≡ 0 = omega arith in
     let e : column_row (entry m) q ≡ 6 = c.loop-r.invariant.1 ∙ rw z (omega arith) in
-    sym (byte m q 6 e ∙ ap (λ x. 6 + cond (equals x (pos 1)) 1 129) (get_or-eq_default m (pos 0) (let h : length m ≡ 36 = c.told-m in omega arith)))
+    sym (byte m q 6 e ∙ ap (λ x. 6 + cond (equals x (pos 1)) 1 129) (get_or-eq_default m (pos 0) (omega arith)))

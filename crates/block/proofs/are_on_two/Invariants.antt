@@ -1,0 +1,25 @@
+-- The invariant: the blocks before n pass, so that the rest decides, and the first two bytes of each block are there.
+use mathlib.Core.Path.{◌≡◌, sym, ap, ◌∙◌}
+use Prim.Native.Nat.{ℕ, ◌+◌, ◌*◌, ◌-◌, ◌≤◌, ◌<◌}
+use mathlib.Core.Bool.{Bool}
+use mathlib.Core.List.{List}
+use native.Mathlib.Omega.{arith}
+use lib.ListN.{length}
+use borrow.Author.Rules.{rules}
+use borrow.Author.Tests.{not-true, not-false}
+use Rattle.matrix.specs.Range.{every_from}
+use Rattle.matrix.specs.Laws.Range.{every_next, every_stop}
+use Rattle.block.specs.Block.{block_count, block_at, is_on_two, are_on_two}
+use Rattle.block.specs.Laws.Block.{block_inside, block_number}
+use Rattle.block.proofs.are_on_two.Given as goal
+
+abbrev pub on_two_at : ℕ → List ℕ → ℕ → Bool
+on_two_at w b n = is_on_two (block_at w b n)
+
+abbrev pub invariant-loop-n : goal.invariant-loop-n
+invariant-loop-n l =
+    (l.n ≤ l.count) × ((i : ℕ) → i < l.count → (l.w * i + 1 < length l.bytes) × (i + 1 < length l.bytes))
+    × (are_on_two l.w l.bytes ≡ every_from (on_two_at l.w l.bytes) l.n (l.count - l.n))
+
+abbrev pub decreases-loop-n : goal.decreases-loop-n
+decreases-loop-n l = l.count - l.n

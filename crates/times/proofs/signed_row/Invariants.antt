@@ -1,0 +1,24 @@
+-- The invariant: the columns before c of row r are written.
+use mathlib.Core.Path.{◌∙◌}
+use Prim.Native.Nat.{ℕ, ◌-◌, ◌≤◌}
+use native.Mathlib.Omega.{arith}
+use mathlib.Core.List.{List}
+use lib.IntN.{ℤ}
+use lib.ListN.{get_or}
+use Rattle.matrix.specs.Matrix.{entry}
+use Rattle.matrix.specs.Laws.Rows.{RowDone, row_none, row_more, row_all}
+use Rattle.matrix.specs.Laws.Machine.{kept}
+use Rattle.clifford.specs.Laws.Columns.{permutation_sound}
+use Rattle.times.specs.Times.{signed_entry}
+use borrow.Author.Rules.{rules}
+use Rattle.times.proofs.signed_row.Given as goal
+
+-- the row of the product
+abbrev pub signed_at : List ℤ → List ℕ → ℕ → ℕ → ℤ
+signed_at m bs r c = signed_entry (entry m) r (get_or bs c 0)
+
+abbrev pub invariant-loop-c : goal.invariant-loop-c
+invariant-loop-c l = (l.c ≤ 6) × RowDone l.r (signed_at l.m l.columns l.r) l.initial.out l.c l.out
+
+abbrev pub decreases-loop-c : goal.decreases-loop-c
+decreases-loop-c l = 6 - l.c

@@ -1,0 +1,21 @@
+-- The invariant: the rows before r are those of the product.
+use mathlib.Core.Path.{refl}
+use mathlib.Core.List.{List}
+use Prim.Native.Nat.{ℕ, ◌-◌, ◌≤◌}
+use native.Mathlib.Omega.{arith}
+use lib.IntN.{ℤ}
+use lib.ListN.{get_or}
+use borrow.Author.Rules.{rules}
+use Rattle.matrix.specs.Matrix.{Matrix, entry}
+use Rattle.matrix.specs.Laws.Rows.{RowsDone, rows_none, rows_more, rows_all}
+use Rattle.times.specs.Times.{pair_entry}
+use Rattle.times.proofs.times_pairs.Given as goal
+
+abbrev pub pair_matrix : List ℤ → List ℕ → Matrix
+pair_matrix m ps r c = pair_entry (entry m) r c (get_or ps c 0)
+
+abbrev pub invariant-loop-r : goal.invariant-loop-r
+invariant-loop-r l = (l.r ≤ 6) × RowsDone (pair_matrix l.m l.partners) l.r l.out
+
+abbrev pub decreases-loop-r : goal.decreases-loop-r
+decreases-loop-r l = 6 - l.r
