@@ -14,8 +14,7 @@ use Rattle.qasm.specs.Promise.{TextPromise, size}
 use Rattle.qasm.specs.Laws.Answer.{sized, size_refused, refused, no_room, room, text_promise}
 use Rattle.qasm.specs.Laws.Writing.{length_first, letters_short, letters_long, text_of_lem, text_length}
 use borrow.Author.Rules.{rules}
-use Rattle.qasm.proofs.gates_to_qasm.Statement.{statement}
-use Rattle.qasm.proofs.gates_to_qasm.Tie as tie
+use Rattle.qasm.proofs.gates_to_qasm.Goals as goal
 
 module _ (bs old : List ℕ) (short : length bs ≤ largest_list) where
   -- a byte that is no letter
@@ -42,72 +41,28 @@ module _ (bs old : List ℕ) (short : length bs ≤ largest_list) where
           text_promise (room text_of old (letters_short bs short ∙ s.is) s.long h
           (appended_front (appended_append a first_fits b) ∙ ap (written old) (sym (text_of_lem bs s.list s.is))))
 
-returns : tie.Need-returns
-returns c = text_promise (refused text_of _ (letters_long _ c.if1.true))
+pub returns-then-letters-gt-LARGEST_LIST : goal.returns-then-letters-gt-LARGEST_LIST
+returns-then-letters-gt-LARGEST_LIST c = text_promise (refused text_of _ (letters_long _ c.if-letters-gt-LARGEST_LIST.true))
 
-text-length-requires : tie.Need-text-length-requires
-text-length-requires c κs = search rules
+pub returns-then-out-n : goal.returns-then-out-n
+returns-then-out-n c =
+    too_short _ _ (omega arith) _ (sym c.in-Bytes.is ∙ c.text_length.ensures) c.if-out-n.true
 
-enum-known-refusal : tie.Need-enum-known-refusal
-enum-known-refusal c = search rules
-
-enum-known-n : tie.Need-enum-known-n
-enum-known-n c = search rules
-
-returns-2 : tie.Need-returns-2
-returns-2 c =
-    let n = c.before.before in
-    let t = n.before.before in
-    too_short _ _ (omega arith) _ (sym n.n.given.1 ∙ t.text-length.ensures) c.if2.true
-
-slice-aggregate-write-bytes : tie.Need-slice-aggregate-write-bytes
-slice-aggregate-write-bytes c = search rules
-
-write-bytes-requires : tie.Need-write-bytes-requires
-write-bytes-requires c κs =
-    let n = c.before.before.before.before in
-    let t = n.before.before in
-    let k = long _ t.before.before.before.before.args.out.now (omega arith) _ (sym n.n.given.1 ∙ t.text-length.ensures) in
+pub write_bytes-next-requires : goal.write_bytes-next-requires
+write_bytes-next-requires c =
+    let k = long _ c.args.out.now (omega arith) _ (sym c.in-Bytes.is ∙ c.text_length.ensures) in
     omega arith
 
-write-statements-requires : tie.Need-write-statements-requires
+pub write_statements-requires : goal.write_statements-requires
 unfolding version_line include_line register_line flatten
-write-statements-requires c κs =
-    let w = c.before.before.before in
-    let n = w.before.before.before.before.before in
-    let t = n.before.before in
-    body_fits _ _ (omega arith) _ (sym n.n.given.1 ∙ t.text-length.ensures) (omega arith) w.write_bytes.ensures
+write_statements-requires c =
+    body_fits _ _ (omega arith) _ (sym c.in-Bytes.is ∙ c.text_length.ensures) (omega arith) c.write_bytes-next.ensures
 
-returns-3 : tie.Need-returns-3
-returns-3 c =
-    let n = c.before in
-    let t = n.before.before in
-    unknown _ _ (omega arith) _ (sym n.refusal.given.1 ∙ t.text-length.ensures)
+pub returns-in-Refused : goal.returns-in-Refused
+returns-in-Refused c =
+    unknown _ _ (omega arith) _ (sym c.in-Refused.is ∙ c.text_length.ensures)
 
-same_length : tie.Need-same-length
-same_length c = search rules
-
-returns-4 : tie.Need-returns-4
+pub returns-else-out-n : goal.returns-else-out-n
 unfolding version_line include_line register_line flatten
-returns-4 c =
-    let s = c.before.before in
-    let w = s.before.before.before.before in
-    let n = w.before.before.before.before.before in
-    let t = n.before.before in
-    done _ _ (omega arith) _ (sym n.n.given.1 ∙ t.text-length.ensures) (omega arith) w.write_bytes.ensures s.write-statements.ensures
-
-pub gates_to_qasm_spec : {M : Type 1} → statement M
-gates_to_qasm_spec =
-    tie.close
-    (tie.spec
-    returns
-    text-length-requires
-    enum-known-refusal
-    enum-known-n
-    returns-2
-    slice-aggregate-write-bytes
-    write-bytes-requires
-    write-statements-requires
-    returns-3
-    same_length
-    returns-4)
+returns-else-out-n c =
+    done _ _ (omega arith) _ (sym c.in-Bytes.is ∙ c.text_length.ensures) (omega arith) c.write_bytes-next.ensures c.write_statements.ensures

@@ -17,8 +17,7 @@ use Rattle.reduction.specs.Reduction.{cut, chosen, loose_cut}
 use Rattle.reduction.specs.Result.{Cuttable}
 use Rattle.reduction.specs.Laws.Step.{one_step}
 use borrow.Author.Rules.{rules}
-use Rattle.reduction.proofs.cut_once.Statement.{statement}
-use Rattle.reduction.proofs.cut_once.Tie as tie
+use Rattle.reduction.proofs.cut_once.Goals as goal
 
 module _ (m : List ℤ) (h : Cuttable m) where
   number : (1 ≤ chosen m) × (chosen m ≤ 15)
@@ -35,48 +34,25 @@ module _ (m : List ℤ) (h : Cuttable m) where
     flag : (t : Bool) → t ≡ has_even_row (mask_at masks) → t ≡ loose_cut m
     flag t f = f ∙ ap (λ x. has_even_row (mask_at x)) e ∙ even_row_held (row_mask (entry m)) ∙ sym (grouped_rows h.rest (entry m) h.orthogonal h.reduced).loose
 
-row-masks-requires : tie.Need-row-masks-requires
-row-masks-requires c κs = search rules
+pub cut_by-matrix-requires : goal.cut_by-matrix-requires
+cut_by-matrix-requires c =
+    let (low, high) = number c.args.m c.requires in
+    let g = taken c.args.m c.requires _ c.row_masks-masks.ensures _ c.first_fit-g.ensures in
+    (omega arith, omega arith, bounded c.args.m c.requires)
 
-first-fit-requires : tie.Need-first-fit-requires
-first-fit-requires c κs = search rules
-
-has-even-row-requires : tie.Need-has-even-row-requires
-has-even-row-requires c κs = search rules
-
-cut-by-requires : tie.Need-cut-by-requires
-cut-by-requires c κs =
-    let s = c.before.before.before.before in
-    let (low, high) = number s.args.t1 s.requires in
-    let g = taken s.args.t1 s.requires _ c.before.before.row-masks.ensures _ c.before.first-fit.ensures in
-    (omega arith, omega arith, bounded s.args.t1 s.requires)
-
-cast-t9 : tie.Need-overflow-cast-t9
-cast-t9 c =
-    let s = c.before.before.before.before.before in
-    let (low, high) = number s.args.t1 s.requires in
-    let g = taken s.args.t1 s.requires _ c.before.before.before.row-masks.ensures _ c.before.before.first-fit.ensures in
+pub overflow_cast-result : goal.overflow_cast-result
+overflow_cast-result c =
+    let (low, high) = number c.args.m c.requires in
+    let g = taken c.args.m c.requires _ c.row_masks-masks.ensures _ c.first_fit-g.ensures in
     omega arith
 
-returns : tie.Need-returns
+pub returns : goal.returns
 returns c =
-    let s = c.before.before.before.before.before in
-    let m = s.args.t1 in
-    let masks = c.before.before.before.row-masks.ensures in
-    let g = taken m s.requires _ masks _ c.before.before.first-fit.ensures in
+    let m = c.args.m in
+    let masks = c.row_masks-masks.ensures in
+    let g = taken m c.requires _ masks _ c.first_fit-g.ensures in
     record {
       number = g;
-      loose = flag m s.requires _ masks _ c.before.has-even-row.ensures;
-      matrix = c.cut_by.ensures ∙ ap (λ x. listed (cut x (entry m))) g;
+      loose = flag m c.requires _ masks _ c.has_even_row-even_row.ensures;
+      matrix = c.cut_by-matrix.ensures ∙ ap (λ x. listed (cut x (entry m))) g;
     }
-
-pub cut_once_spec : {M : Type 1} → statement M
-cut_once_spec =
-    tie.close
-    (tie.spec
-    row-masks-requires
-    first-fit-requires
-    has-even-row-requires
-    cut-by-requires
-    cast-t9
-    returns)

@@ -1,0 +1,20 @@
+-- The least form is orthogonal and reduced.
+use mathlib.Core.List.{List}
+use mathlib.Core.Path.{◌≡◌, sym, subst}
+use Prim.Native.Nat.{ℕ, ◌≤◌}
+use native.Mathlib.Omega.{arith}
+use borrow.Author.Rules.{rules}
+use lib.IntN.{ℤ}
+use Rattle.matrix.specs.Operator.{Orthogonal, Reduced}
+use Rattle.matrix.specs.Array.{Least, least_form}
+use Rattle.matrix.specs.Laws.Array.{operator_of, least_form_lem, least_orthogonal}
+use Rattle.reduction.specs.declared.Normal.{Normal}
+use Rattle.reduction.specs.Result.{Whole, WholeOf}
+use Rattle.reduction.proofs.normal_form.Goals as goal
+
+pub reduce-requires : goal.reduce-requires
+reduce-requires c =
+    let k = c.args.k in
+    let m = c.args.m in
+    subst (λ (l : Least). (l.exponent ≤ 60) × Orthogonal (operator_of l) × Reduced (operator_of l)) (sym c.least_form-exponent.ensures)
+    ((let b = (least_form_lem k m).below in let p = c.requires.0 in omega arith), least_orthogonal k m c.requires.1, (least_form_lem k m).reduced)
