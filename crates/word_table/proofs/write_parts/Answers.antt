@@ -27,4 +27,4 @@ returns c =
     let k = 8 + c.low_bits-second.result in
     written_as
     (ap₂ (λ i j. word i ++ word (8 + j)) c.low_bits-first.ensures.0 c.low_bits-second.ensures.0)
-    (written_append (one w) (fits w) (c.write_code.ensures (word k) c.part_code-2.ensures (omega (arith, part_length k))))
+    (written_append ((let one' : Written (word (c.low_bits-first.result)) c.args.at c.args.out.now c.write_code-next.new.out c.write_code-next.result = c.write_code-next.ensures (word (c.low_bits-first.result)) c.part_code.ensures (omega (arith, part_length (c.low_bits-first.result))) in one')) ((let fits' : c.args.at + length (word (c.low_bits-first.result)) ≤ length c.args.out.now = omega (arith, part_length (c.low_bits-first.result), c.requires) in fits')) (c.write_code.ensures (word k) c.part_code-2.ensures (omega (arith, part_length k))))

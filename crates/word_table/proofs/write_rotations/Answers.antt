@@ -31,4 +31,4 @@ returns c =
     let k = c.rotation_row-second.result in
     written_as
     (ap₂ (λ i j. first i ++ second j) c.rotation_row-first.ensures.0 c.rotation_row-second.ensures.0)
-    (written_append (one w) (fits w) (c.write_code.ensures (second k) c.rotation_code-2.ensures (omega (arith, rotation_length true k))))
+    (written_append ((let one' : Written (first (c.rotation_row-first.result)) c.args.at c.args.out.now c.write_code-next.new.out c.write_code-next.result = c.write_code-next.ensures (first (c.rotation_row-first.result)) c.rotation_code.ensures (omega (arith, rotation_length false (c.rotation_row-first.result))) in one')) ((let fits' : c.args.at + length (first (c.rotation_row-first.result)) ≤ length c.args.out.now = omega (arith, rotation_length false (c.rotation_row-first.result), c.requires) in fits')) (c.write_code.ensures (second k) c.rotation_code-2.ensures (omega (arith, rotation_length true k))))

@@ -10,8 +10,7 @@ use Rattle.clifford.specs.Columns.{signed_byte}
 use Rattle.clifford.specs.Laws.Signed.{signed_at}
 use Rattle.sheet_bytes.specs.Bytes.{count_byte, sign_byte, written_columns, sheet_bytes}
 use Rattle.sheet_bytes.specs.Laws.Bytes.{count_first, written_long}
-use Rattle.sheet_bytes.proofs.sheet_byte.Statement.{statement}
-use Rattle.sheet_bytes.proofs.sheet_byte.Tie as tie
+use Rattle.sheet_bytes.proofs.sheet_byte.Goals as goal
 
 module _ (count n : ℕ) (numbers columns : List ℕ) (h : count ≤ 60) (l : length numbers ≡ 60) (m : length columns ≡ 6) where
   abbrev sign : ℕ
@@ -53,67 +52,18 @@ module _ (count n : ℕ) (numbers columns : List ℕ) (h : count ≤ 60) (l : le
       (behind u ∙ get_or-append (written_columns columns) (sign ∷ []) 0 (n - 1 - count) (let e = written_long columns m in omega arith)
       ∙ signed_at sign columns (n - 1 - count) (omega arith))
 
-add-result : tie.Need-overflow-add-result
-add-result c = search rules
+pub returns-then-n-eq0 : goal.returns-then-n-eq0
+returns-then-n-eq0 c = first c.args.count c.args.n c.args.numbers c.args.columns c.requires.0 (omega arith) (omega arith) c.if-n-eq0.true
 
-returns : tie.Need-returns
-returns c = let s = c.before in first s.args.count s.args.n s.args.t2 s.args.t3 s.requires.0 s.well-formed.1.0.1.0.1 s.well-formed.1.1.0.1.0.1 c.if1.true
+pub returns-then-n-t : goal.returns-then-n-t
+returns-then-n-t c =
+    front c.args.count c.args.n c.args.numbers c.args.columns c.requires.0 (omega arith) (omega arith) (omega arith) c.if-n-t.true
 
-sub-result : tie.Need-overflow-sub-result
-sub-result c = search rules
+pub returns-then-n-t-2 : goal.returns-then-n-t-2
+returns-then-n-t-2 c =
+    c.sign_byte-sign.ensures ∙ last c.args.count c.args.n c.args.numbers c.args.columns c.requires.0 (omega arith) (omega arith) c.if-n-t-2.true
 
-array-read-result : tie.Need-array-read-result
-array-read-result c = search rules
-
-returns-2 : tie.Need-returns-2
-returns-2 c =
-    let s = c.before.before in
-    front s.args.count s.args.n s.args.t2 s.args.t3 s.requires.0 s.well-formed.1.0.1.0.1 s.well-formed.1.1.0.1.0.1 (omega arith) c.if2.true
-
-sign-byte-requires : tie.Need-sign-byte-requires
-sign-byte-requires c κs = search rules
-
-add-if3 : tie.Need-overflow-add-if3
-add-if3 c = search rules
-
-returns-3 : tie.Need-returns-3
-returns-3 c =
-    let s = c.before.before.before.before in
-    c.before.sign-byte.ensures ∙ last s.args.count s.args.n s.args.t2 s.args.t3 s.requires.0 s.well-formed.1.0.1.0.1 s.well-formed.1.1.0.1.0.1 c.if3.true
-
-sub-signed-byte : tie.Need-overflow-sub-signed-byte
-sub-signed-byte c = search rules
-
-sub-signed-byte-2 : tie.Need-overflow-sub-signed-byte-2
-sub-signed-byte-2 c = search rules
-
-array-read-signed-byte : tie.Need-array-read-signed-byte
-array-read-signed-byte c = search rules
-
-signed-byte-requires : tie.Need-signed-byte-requires
-signed-byte-requires c κs = search rules
-
-returns-4 : tie.Need-returns-4
-returns-4 c =
-    let n = c.before.before.before in
-    let s = n.before.before in
-    c.signed-byte.ensures ∙ ap (λ x. signed_byte x (get_or s.args.t3 (s.args.n - 1 - s.args.count) 0)) c.before.before.sign-byte.ensures
-    ∙ column s.args.count s.args.n s.args.t2 s.args.t3 s.requires.0 s.well-formed.1.0.1.0.1 s.well-formed.1.1.0.1.0.1 n.if2.false (omega (arith, s.requires.1))
-
-pub sheet_byte_spec : {M : Type 1} → statement M
-sheet_byte_spec =
-    tie.close
-    (tie.spec
-    add-result
-    returns
-    sub-result
-    array-read-result
-    returns-2
-    sign-byte-requires
-    add-if3
-    returns-3
-    sub-signed-byte
-    sub-signed-byte-2
-    array-read-signed-byte
-    signed-byte-requires
-    returns-4)
+pub returns : goal.returns
+returns c =
+    c.signed_byte.ensures ∙ ap (λ x. signed_byte x (get_or c.args.columns (c.args.n - 1 - c.args.count) 0)) c.sign_byte-sign.ensures
+    ∙ column c.args.count c.args.n c.args.numbers c.args.columns c.requires.0 (omega arith) (omega arith) c.if-n-t.false (omega (arith, c.requires.1))

@@ -17,8 +17,7 @@ use Rattle.qasm_read.specs.declared.Statements.{Statements}
 use Rattle.qasm_read.specs.Statements.{begins, StatementsFrom, after_line, read_from, list_in}
 use Rattle.qasm_read.specs.Laws.Statements.{not_started, started, ended, wrong, other_line, too_many, in_limit}
 use borrow.Author.Rules.{rules}
-use Rattle.qasm_read.proofs.qasm_to_gates.Statement.{statement}
-use Rattle.qasm_read.proofs.qasm_to_gates.Tie as tie
+use Rattle.qasm_read.proofs.qasm_to_gates.Goals as goal
 
 module _ (bs : List ℕ) (first : ℕ) (e : first ≡ after_line bs 0 (flatten first_lines)) (n : first ≢ 0) where
   begun : begins bs (flatten first_lines) ≡ true
@@ -55,77 +54,42 @@ module _ (bs : List ℕ) (first : ℕ) (e : first ≡ after_line bs 0 (flatten f
           letters_promise (room (map letter) old (in_limit bs begun r from h l) (from.count ∙ sym (length-map from.list letter)) k
           (b ∙ ap (λ x. written old (map letter (list_in x))) (ap (read_from bs) first_is ∙ ended bs first_length r from h)))
 
-slice-aggregate-after : tie.Need-slice-aggregate-after
-slice-aggregate-after c = search rules
-
-after-requires : tie.Need-after-requires
-after-requires c κs = search rules
-
-returns : tie.Need-returns
+pub returns-then-first-eq0 : goal.returns-then-first-eq0
 unfolding version_line include_line register_line flatten
-returns c =
-    let bs = c.before.before.before.before.before.args.text.now in
-    letters_promise (refused (map letter) _ (wrong bs (not_started bs _ c.before.after.ensures c.if1.true)))
+returns-then-first-eq0 c =
+    let bs = c.args.text.now in
+    letters_promise (refused (map letter) _ (wrong bs (not_started bs _ c.after-first.ensures c.if-first-eq0.true)))
 
-statements-from-requires : tie.Need-statements-from-requires
+pub statements_from-read-requires : goal.statements_from-read-requires
 unfolding version_line include_line register_line flatten
-statements-from-requires c κs = (started c.before.before.before.before.before.args.text.now _ c.before.after.ensures c.if1.false).2
+statements_from-read-requires c = (started c.args.text.now _ c.after-first.ensures c.if-first-eq0.false).2
 
-returns-2 : tie.Need-returns-2
+pub returns-then-read-text : goal.returns-then-read-text
 unfolding version_line include_line register_line flatten
-returns-2 c =
-    let r = c.before.before in
-    let f = r.before in
-    line_refused _ _ f.before.after.ensures f.if1.false _ _ r.statements-from.ensures c.if2.true
+returns-then-read-text c =
+    line_refused _ _ c.after-first.ensures c.if-first-eq0.false _ _ c.statements_from-read.ensures c.if-read-text.true
 
-returns-3 : tie.Need-returns-3
+pub returns-then-count-gt-LARGEST_LIST : goal.returns-then-count-gt-LARGEST_LIST
 unfolding version_line include_line register_line flatten
-returns-3 c =
-    let r = c.before.before.before in
-    let f = r.before in
-    many_refused _ _ f.before.after.ensures f.if1.false _ _ r.statements-from.ensures (omega arith) c.if3.true
+returns-then-count-gt-LARGEST_LIST c =
+    many_refused _ _ c.after-first.ensures c.if-first-eq0.false _ _ c.statements_from-read.ensures (omega arith) c.if-count-gt-LARGEST_LIST.true
 
-returns-4 : tie.Need-returns-4
+pub returns-then-out-count : goal.returns-then-out-count
 unfolding version_line include_line register_line flatten
-returns-4 c =
-    let r = c.before.before.before.before in
-    let f = r.before in
-    short_refused _ _ f.before.after.ensures f.if1.false _ _ r.statements-from.ensures (omega arith) (omega arith) c.if4.true
+returns-then-out-count c =
+    short_refused _ _ c.after-first.ensures c.if-first-eq0.false _ _ c.statements_from-read.ensures (omega arith) (omega arith) c.if-out-count.true
 
-write-letters-requires : tie.Need-write-letters-requires
+pub write_letters-requires : goal.write_letters-requires
 unfolding version_line include_line register_line flatten
-write-letters-requires c κs =
-    let r = c.before.before.before.before.before in
-    let f = r.before in
-    let a = f.before.before.before.before.before.args in
-    let n = f.if1.false in (
-      (started a.text.now _ f.before.after.ensures n).2,
-      sized_is a.text.now _ f.before.after.ensures n a.out.now _ r.statements-from.ensures (omega arith),
+write_letters-requires c =
+    let a = c.args in
+    let n = c.if-first-eq0.false in (
+      (started a.text.now _ c.after-first.ensures n).2,
+      sized_is a.text.now _ c.after-first.ensures n a.out.now _ c.statements_from-read.ensures (omega arith),
       omega arith,
     )
 
-same_length : tie.Need-same-length
-same_length c = search rules
-
-returns-5 : tie.Need-returns-5
+pub returns : goal.returns
 unfolding version_line include_line register_line flatten
-returns-5 c =
-    let w = c.before.before in
-    let r = w.before.before.before.before.before.before in
-    let f = r.before in
-    done _ _ f.before.after.ensures f.if1.false _ _ r.statements-from.ensures (omega arith) (omega arith) (omega arith) w.write-letters.ensures
-
-pub qasm_to_gates_spec : {M : Type 1} → statement M
-qasm_to_gates_spec =
-    tie.close
-    (tie.spec
-    slice-aggregate-after
-    after-requires
-    returns
-    statements-from-requires
-    returns-2
-    returns-3
-    returns-4
-    write-letters-requires
-    same_length
-    returns-5)
+returns c =
+    done _ _ c.after-first.ensures c.if-first-eq0.false _ _ c.statements_from-read.ensures (omega arith) (omega arith) (omega arith) c.write_letters.ensures

@@ -5,12 +5,8 @@ use Rattle.clifford.specs.Columns.{is_even}
 use Rattle.word.specs.Word.{part_words, part_inverses, local_columns, rotation_words, clifford_word}
 use Rattle.gate_list.specs.List.{lefts, rights, left_of, right_of}
 use Rattle.gate_list.specs.Stretches.{stretch_codes}
-use Rattle.gate_list.proofs.stretch_codes.Statement.{statement}
-use Rattle.gate_list.proofs.stretch_codes.Tie as tie
+use Rattle.gate_list.proofs.stretch_codes.Goals as goal
 
-returns : tie.Need-returns
+pub returns : goal.returns
 unfolding stretch_codes tabulate is_even part_words part_inverses local_columns rotation_words clifford_word lefts rights left_of right_of
 returns c = refl
-
-pub stretch_codes_spec : {M : Type 1} → statement M
-stretch_codes_spec = tie.close (tie.spec returns)

@@ -1,0 +1,50 @@
+-- The invariant: the bytes from i on decide.
+use mathlib.Core.Path.{◌≡◌, refl, sym, ap, ap₂, ◌∙◌}
+use mathlib.Core.Bool.{Bool, true, false, cond, ◌&&◌}
+use mathlib.Core.List.{List}
+use Prim.Native.Nat.{ℕ, ◌+◌, ◌-◌, ◌≤◌, ◌<◌}
+use native.Mathlib.Numerals.{add-one}
+use native.Mathlib.Omega.{arith}
+use lib.Dec.{eqb}
+use lib.ListN.{length, get_or, take, drop, length-take, length-drop}
+use lib.Seq.{drop-cons, drop-length, get_or-drop}
+use borrow.Author.Tests.{eq-eqb, ne_eqb}
+use Rattle.matrix.specs.Laws.Test.{same_list_lem}
+use Rattle.qasm_read.specs.Statements.{begins}
+use borrow.Author.Rules.{rules}
+use Rattle.qasm_read.proofs.after.Given as goal
+
+pub begins_next : (d l : List ℕ) (i : ℕ) → i < length d → i < length l → begins (drop i d) (drop i l) ≡ (eqb (get_or d i 0) (get_or l i 0) && begins (drop (i + 1) d) (drop (i + 1) l))
+begins_next d l i h k = ap₂ begins (drop-cons d i 0 h) (drop-cons l i 0 k) ∙ ap (λ n. eqb (get_or d i 0) (get_or l i 0) && begins (drop n d) (drop n l)) (sym (add-one i))
+
+module _ (bs : List ℕ) (at : ℕ) (l : List ℕ) where
+  pub record Going (i : ℕ) : Type 0 where
+    pub inside : i ≤ length l
+    pub room : length l ≤ length bs - at
+    pub rest : begins (drop at bs) l ≡ begins (drop i (drop at bs)) (drop i l)
+
+  module _ (i : ℕ) (s : Going i) (h : i < length l) where
+    pub next : begins (drop at bs) l ≡ (eqb (get_or bs (at + i) 0) (get_or l i 0) && begins (drop (i + 1) (drop at bs)) (drop (i + 1) l))
+    next =
+        let r = s.room in
+        let d = length-drop at bs in
+        s.rest ∙ begins_next (drop at bs) l i (omega arith) h ∙ ap (λ x. eqb x (get_or l i 0) && begins (drop (i + 1) (drop at bs)) (drop (i + 1) l)) (get_or-drop at bs i 0)
+
+    pub other : (get_or bs (at + i) 0 ≡ get_or l i 0 → ⊥) → at ≡ cond (begins (drop at bs) l) (at + length l) at
+    other n = rw (next, ne_eqb (get_or bs (at + i) 0) (get_or l i 0) n)
+
+    pub turn : get_or bs (at + i) 0 ≡ get_or l i 0 → Going (i + 1)
+    turn e = record { inside = omega arith; room = s.room; rest = next ∙ rw (eq-eqb (get_or bs (at + i) 0) (get_or l i 0) e) }
+
+  pub whole : (i : ℕ) → Going i → length l ≤ i → at + i ≡ cond (begins (drop at bs) l) (at + length l) at
+  whole i s h =
+      let n = s.inside in
+      let e : i ≡ length l = omega arith in
+      let t : begins (drop at bs) l ≡ true = s.rest ∙ ap (begins (drop i (drop at bs))) (ap (λ k. drop k l) e ∙ drop-length l) in
+      rw t (omega arith)
+
+abbrev pub invariant-loop-i : goal.invariant-loop-i
+invariant-loop-i l = Going l.text l.at l.line l.i
+
+abbrev pub decreases-loop-i : goal.decreases-loop-i
+decreases-loop-i l = length l.line - l.i
