@@ -3,7 +3,7 @@ use Rattle.std.specs.Prelude.{◌≡◌, Bool, cond, ◌&&◌, ◌≢◌, leb, l
 use Rattle.std.proofs.Math.Path.{refl, sym, ap}
 use Rattle.std.proofs.Common.{ap₂, ◌∙◌, zero-add, add-one, length-drop, take-add, length-take-le, get_or-take, get_or-drop}
 use Rattle.std.proofs.Math.Bool.{true, false}
-use mathlib.Core.List.{List, [], ◌++◌, flatten, append_assoc, append_nil}
+use mathlib.Core.List.{List, [], ◌++◌, flatten, append_assoc, append-nil}
 use Prim.Native.Nat.{ℕ, zero, suc, ◌+◌, ◌*◌, ◌-◌, ◌≤◌, ◌<◌}
 use Rattle.std.proofs.Math.Decide.{ℕ_discrete, dec_lt}
 use native.Mathlib.Omega.{arith}
@@ -211,7 +211,7 @@ module _ (b : List ℕ) (h : Bundled b) where
 
   from_part : (a k : ℕ) → a + k ≤ sheet_count b → take (start_of b a) b ++ flatten (tabulate (sheet_in b) a k) ≡ take (start_of b (a + k)) b
   unfolding tabulate flatten
-  from_part a zero l = append_nil (take (start_of b a) b) ∙ ap (λ n. take (start_of b n) b) (let i : a ≡ a + zero = omega arith in i)
+  from_part a zero l = append-nil (take (start_of b a) b) ∙ ap (λ n. take (start_of b n) b) (let i : a ≡ a + zero = omega arith in i)
   from_part a (suc k) l =
       sym (append_assoc (take (start_of b a) b) (sheet_in b a) (flatten (tabulate (sheet_in b) (suc a) k)))
       ∙ ap (λ x. x ++ flatten (tabulate (sheet_in b) (suc a) k)) (one_more a (omega arith))

@@ -13,6 +13,11 @@ use Rattle.word.specs.Laws.Word.{word_length}
 use Rattle.gate_list.specs.Laws.Listing.{Listing, listing_none, same_size, place, listing_more, listing_all, listing_sign, counted, counted_number}
 use Rattle.gate_list.proofs.write_list.Goals as goal
 
+-- the last word.
+
+pub loop-n-init : goal.loop-n-init
+loop-n-init c = (omega arith, listing_none _ _ _)
+
 pub loop-n-preserved : goal.loop-n-preserved
 loop-n-preserved c =
     let w = c.write_stretch-word in

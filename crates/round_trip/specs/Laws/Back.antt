@@ -145,8 +145,8 @@ module _ (s : List ℕ) (a : Accepted s) where
 
   pub sheet_file_accepted : file_refusal (sheet_file s) ≡ 0
   sheet_file_accepted =
-      file.in-form (sheet_file s) (file_in_form (sheet_least s).exponent (sheet_least s).matrix (sheet_small s a))
-      ∙ file.entries-complete (file_operator (sheet_file s))
+      file.in_form (sheet_file s) (file_in_form (sheet_least s).exponent (sheet_least s).matrix (sheet_small s a))
+      ∙ file.entries_complete (file_operator (sheet_file s))
       (subst ProperOrthogonal (sym (sheet_file_lem s a)) (same_proper_orthogonal (same_operator_sym (sheet_same_least s a)) sheet_proper))
 
   pub sheet_file_cut : file_sheet (sheet_file s) ≡ s

@@ -140,6 +140,6 @@ module _ (U : Quotient) (o : Unitary U) where
   pub some_list : (w : List Gate) × (a : ℕ) × (a < 8) × Gives w a U
   some_list =
       let f = form U o in
-      let (w, m, n) = gate-list.some-list f.orthogonal f.proper in
+      let (w, m, n) = gate-list.some_list f.orthogonal f.proper in
       let (a, l, g) = given w (inl m.same) in
       (w, a, l, g)

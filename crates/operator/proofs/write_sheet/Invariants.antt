@@ -1,0 +1,22 @@
+-- The invariant: the bytes before n are those of the sheet.
+use mathlib.Core.Path.{◌≡◌, refl, sym, ap, ◌∙◌}
+use Prim.Native.Nat.{ℕ, ◌+◌, ◌-◌, ◌≤◌}
+use native.Mathlib.Omega.{arith}
+use mathlib.Core.List.{List}
+use lib.ListN.{length, get_or, take}
+use Rattle.matrix.specs.Laws.Range.{tabulate_is, Filled, filled_none, filled_more}
+use Rattle.file.specs.File.{written}
+use Rattle.file.specs.Laws.Written.{filled_written}
+use Rattle.sheet_bytes.specs.Bytes.{shortest, sheet_bytes}
+use Rattle.sheet_bytes.specs.Laws.Bytes.{length_held}
+use borrow.Author.Rules.{rules}
+use Rattle.operator.proofs.write_sheet.Given as goal
+
+abbrev pub byte : ℕ → List ℕ → List ℕ → ℕ → ℕ
+byte count numbers columns i = get_or (sheet_bytes (take count numbers) columns) i 0
+
+abbrev pub invariant-loop-n : goal.invariant-loop-n
+invariant-loop-n l = (l.end ≡ l.count + shortest) × (l.n ≤ l.end) × Filled 0 (byte l.count l.numbers l.columns) l.initial.out l.n l.out
+
+abbrev pub decreases-loop-n : goal.decreases-loop-n
+decreases-loop-n l = l.end - l.n

@@ -1,0 +1,78 @@
+use mathlib.Core.Path.{◌≡◌, refl, sym, ap, ◌∙◌}
+use Prim.Native.Nat.{ℕ, suc, ◌+◌, ◌-◌, ◌≤◌, ◌<◌}
+use native.Mathlib.Omega.{arith}
+use mathlib.Core.List.{List}
+use lib.IntN.{ℤ}
+use lib.ListN.{length, get_or, take, drop}
+use lib.Seq.{length-take-le, get_or-take, drop-cons, drop-length}
+use Rattle.matrix.specs.Matrix.{Matrix, Same, δ, entry, listed, product}
+use Rattle.matrix.specs.Operator.{operator, times_operator, identity, Orthogonal}
+use Rattle.matrix.specs.Laws.Matrix.{product_cong, product_assoc, product_id_l}
+use Rattle.matrix.specs.Laws.Operator.{times_orthogonal, same_orthogonal, same_operator_of}
+use Rattle.matrix.specs.Laws.Inverse.{identity_orthogonal}
+use Rattle.matrix.specs.Laws.Array.{entry_listed, listed_cong, orthogonal_bounded}
+use Rattle.clifford.specs.Columns.{columns_matrix}
+use Rattle.residue.specs.Generator.{generator}
+use Rattle.residue.specs.Laws.Generator.{generator_orthogonal}
+use Rattle.reduction.specs.Reduction.{normal_form}
+use Rattle.sheet.specs.Laws.Sheet.{numbers_sound}
+use borrow.Author.Rules.{rules}
+use Rattle.sheet.proofs.multiplied.Invariants.{Going}
+use Rattle.sheet.proofs.multiplied.Goals as goal
+
+start : (gs : List ℕ) (C : Matrix) (m : List ℤ) → m ≡ listed δ → Going gs C m 0
+start gs C m e = record {
+  orthogonal = same_orthogonal (same_operator_of identity (operator 0 (entry m)) refl (λ i j hi hj. sym (identity_entry i j hi hj))) identity_orthogonal;
+  whole = λ i j hi hj. sym (product_cong {B = (normal_form gs C).matrix} {B' = (normal_form gs C).matrix} identity_entry (λ i j hi hj. refl) i j hi hj ∙ product_id_l 6 (normal_form gs C).matrix i j hi hj);
+}
+  where
+    identity_entry : Same 6 (entry m) δ
+    identity_entry i j hi hj = ap (λ x. entry x i j) e ∙ entry_listed δ i j hi hj
+
+-- a generator more
+more : (gs : List ℕ) (C : Matrix) (m r : List ℤ) (n : ℕ) → n < length gs → 1 ≤ get_or gs n 0 → get_or gs n 0 ≤ 15 → Going gs C m n → r ≡ listed (product 6 (entry m) (generator (get_or gs n 0))) → Going gs C r (n + 1)
+unfolding normal_form
+more gs C m r n h l u s e =
+    let g = get_or gs n 0 in
+    let same : Same 6 (entry r) (product 6 (entry m) (generator g)) = λ i j hi hj. ap (λ x. entry x i j) e ∙ entry_listed (product 6 (entry m) (generator g)) i j hi hj in
+    let k : n + 1 ≡ suc n = omega arith in
+    record {
+      orthogonal = same_orthogonal (same_operator_of (times_operator (operator n (entry m)) (operator 1 (generator g))) (operator (n + 1) (entry r)) refl (λ i j hi hj. sym (same i j hi hj))) (times_orthogonal s.orthogonal (generator_orthogonal g l u));
+      whole = λ i j hi hj.
+          s.whole i j hi hj
+          ∙ ap (λ x. product 6 (entry m) (normal_form x C).matrix i j) (drop-cons gs n 0 h)
+          ∙ ap (λ (X : Matrix). X i j) (sym (product_assoc 6 (entry m) (generator g) (normal_form (drop (suc n) gs) C).matrix))
+          ∙ sym (product_cong same (λ i j hi hj. ap (λ x. (normal_form (drop x gs) C).matrix i j) k) i j hi hj);
+    }
+
+all : (gs : List ℕ) (C : Matrix) (m r : List ℤ) (n : ℕ) → n ≡ length gs → Going gs C m n → r ≡ listed (product 6 (entry m) C) → r ≡ listed (normal_form gs C).matrix
+unfolding normal_form
+all gs C m r n h s e =
+    e
+    ∙ listed_cong (product 6 (entry m) C) (normal_form gs C).matrix
+    (λ i j hi hj. sym (s.whole i j hi hj ∙ ap (λ x. product 6 (entry m) (normal_form x C).matrix i j) (ap (λ x. drop x gs) h ∙ drop-length gs)))
+
+pub loop-n-init : goal.loop-n-init
+loop-n-init c = (search rules, start _ _ _ c.identity-m.ensures)
+
+pub times_generator-next-requires : goal.times_generator-next-requires
+times_generator-next-requires c =
+    let b = numbers_sound c.args.bytes.now c.args.count c.requires.1 c.requires.2 c.loop-n.n (omega arith) in
+    (b.0, b.1, orthogonal_bounded c.loop-n.n 30 (entry c.loop-n.m) c.loop-n.invariant.1.orthogonal (omega (arith, c.requires.0)))
+
+pub loop-n-preserved : goal.loop-n-preserved
+loop-n-preserved c =
+    let b = c.args.bytes.now in
+    let t = length-take-le c.args.count b c.requires.1 in
+    let g = get_or-take c.args.count b c.loop-n.n 0 (omega arith) in
+    let x = numbers_sound b c.args.count c.requires.1 c.requires.2 c.loop-n.n (omega arith) in
+    (omega arith, more (take c.args.count b) _ c.loop-n.m _ c.loop-n.n (omega arith) (rw g x.0) (rw g x.1) c.loop-n.invariant.1 (rw g c.times_generator-next.ensures))
+
+pub times_columns-requires : goal.times_columns-requires
+times_columns-requires c =
+    (c.requires.3, orthogonal_bounded c.loop-n.n 30 (entry c.loop-n.m) c.loop-n.invariant.1.orthogonal (omega (arith, c.requires.0)))
+
+pub returns : goal.returns
+returns c =
+    let t = length-take-le c.args.count c.args.bytes.now c.requires.1 in
+    all (take c.args.count c.args.bytes.now) _ c.loop-n.m _ c.loop-n.n (omega arith) c.loop-n.invariant.1 c.times_columns.ensures

@@ -1,0 +1,39 @@
+use mathlib.Core.Path.{◌≡◌, sym, ap, ap₂, subst, ◌∙◌}
+use mathlib.Core.List.{List}
+use Prim.Native.Nat.{ℕ, ◌-◌, ◌^◌}
+use native.Mathlib.Omega.{arith}
+use lib.IntN.{ℤ}
+use borrow.Author.Rules.{rules}
+use Rattle.gaussian.specs.declared.Gaussian.{Gaussian}
+use Rattle.gaussian.specs.Gaussian.{Within, Matrix, ◌⊕◌, ◌⊗◌}
+use Rattle.gaussian.specs.Laws.Size.{within_more, within-⊕, within-⊗}
+use Rattle.unitary.specs.Unitary.{matrix_of}
+use Rattle.unitary.specs.Form.{compound, basis}
+use Rattle.six_form.specs.Places.{place_of}
+use Rattle.six_form.specs.Laws.Places.{half_entry}
+use Rattle.six_form.proofs.half_entry.Goals as goal
+
+-- the two terms, at the place that the table gives
+abbrev C : List ℤ → Matrix
+C n = compound (matrix_of n)
+
+first_term : (n : List ℤ) (p c q : ℕ) {x y : Gaussian} → q ≡ place_of c → x ≡ basis (place_of c) c → y ≡ C n p q → x ⊗ y ≡ basis (place_of c) c ⊗ C n p (place_of c)
+first_term n p c q e f g = ap₂ (λ x y. x ⊗ y) f (g ∙ ap (C n p) e)
+
+second_term : (n : List ℤ) (p c q : ℕ) {x y : Gaussian} → q ≡ place_of c → x ≡ basis (5 - place_of c) c → y ≡ C n p (5 - q) → x ⊗ y ≡ basis (5 - place_of c) c ⊗ C n p (5 - place_of c)
+second_term n p c q e f g = ap₂ (λ x y. x ⊗ y) f (g ∙ ap (λ q. C n p (5 - q)) e)
+
+pub plus-requires : goal.plus-requires
+plus-requires c = (within_more (omega arith) ((let left' : Within (2 ^ 33) c.times-left.result = subst (Within (2 ^ 33)) (sym c.times-left.ensures) (within-⊗ c.lower.ensures.1 c.minor.ensures.1) in left')), within_more (omega arith) ((let right' : Within (2 ^ 33) c.times-right.result = subst (Within (2 ^ 33)) (sym c.times-right.ensures) (within-⊗ c.upper.ensures.1 c.minor-2.ensures.1) in right')))
+
+pub returns : goal.returns
+returns c =
+    let a = c.args in
+    let e = c.place_of-q.ensures.0 in (
+      c.plus.ensures
+          ∙ ap₂ (λ x y. x ⊕ y)
+          (c.times-left.ensures ∙ first_term a.n.now a.p a.c _ e c.lower.ensures.0 c.minor.ensures.0)
+          (c.times-right.ensures ∙ second_term a.n.now a.p a.c _ e c.upper.ensures.0 c.minor-2.ensures.0)
+          ∙ sym (half_entry (compound (matrix_of a.n.now)) a.p a.c c.requires.1),
+      subst (Within (2 ^ 34)) (sym c.plus.ensures) (within-⊕ ((let left' : Within (2 ^ 33) c.times-left.result = subst (Within (2 ^ 33)) (sym c.times-left.ensures) (within-⊗ c.lower.ensures.1 c.minor.ensures.1) in left')) ((let right' : Within (2 ^ 33) c.times-right.result = subst (Within (2 ^ 33)) (sym c.times-right.ensures) (within-⊗ c.upper.ensures.1 c.minor-2.ensures.1) in right'))),
+    )

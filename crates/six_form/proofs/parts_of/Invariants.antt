@@ -1,0 +1,26 @@
+-- The invariant: the parts before i are those of the form.
+use mathlib.Core.Path.{◌≡◌, refl, ap, ◌∙◌}
+use mathlib.Core.List.{List}
+use Prim.Native.Nat.{ℕ, ◌-◌, ◌/◌, ◌%◌, ◌≤◌}
+use native.Mathlib.Omega.{arith}
+use lib.Dec.{lit<}
+use lib.IntN.{ℤ, pos}
+use borrow.Author.Rules.{rules}
+use Rattle.matrix.specs.Matrix.{listed}
+use Rattle.matrix.specs.Laws.Range.{Filled, filled_none, filled_more, filled_all}
+use Rattle.matrix.specs.Laws.Machine.{stored}
+use Rattle.unitary.specs.Unitary.{matrix_of}
+use Rattle.unitary.specs.Form.{six_form}
+use Rattle.six_form.proofs.parts_of.Given as goal
+
+abbrev pub re_at : List ℤ → ℕ → ℤ
+re_at n i = (six_form (matrix_of n) (i / 6) (i % 6)).re
+
+abbrev pub im_at : List ℤ → ℕ → ℤ
+im_at n i = (six_form (matrix_of n) (i / 6) (i % 6)).im
+
+abbrev pub invariant-loop-i : goal.invariant-loop-i
+invariant-loop-i l = (l.i ≤ 36) × Filled (pos 0) (re_at l.n) l.initial.re l.i l.re × Filled (pos 0) (im_at l.n) l.initial.im l.i l.im
+
+abbrev pub decreases-loop-i : goal.decreases-loop-i
+decreases-loop-i l = 36 - l.i

@@ -1,0 +1,13 @@
+use mathlib.Core.Path.{sym, ap₂, subst, ◌∙◌}
+use Prim.Native.Nat.{◌^◌}
+use native.Mathlib.Omega.{arith}
+use borrow.Author.Rules.{rules}
+use Rattle.gaussian.specs.Gaussian.{Within, ◌⊗◌}
+use Rattle.gaussian.specs.Laws.Size.{within_more, within-⊗}
+use Rattle.six_form.proofs.product_of.Goals as goal
+
+pub returns : goal.returns
+returns c =
+    let x = c.entry_of-x.ensures in
+    let y = c.entry_of.ensures in
+    (c.times.ensures ∙ ap₂ (λ x y. x ⊗ y) x.0 y.0, subst (Within (2 ^ 31)) (sym c.times.ensures) (within-⊗ x.1 y.1))
