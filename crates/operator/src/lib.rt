@@ -3,7 +3,6 @@
 #![tactic(auto)]
 
 ghost use Rattle.std.specs.Prelude.{◌≡◌, ◌+◌, ◌≤◌, length, take};
-ghost use Rattle.matrix.specs.Matrix.{entry};
 ghost use Rattle.file.specs.File.{written};
 ghost use Rattle.sheet_bytes.specs.Bytes.{shortest, sheet_bytes};
 ghost use Rattle.operator.specs.Promise.{SheetPromise, GatesPromise};

@@ -4,7 +4,6 @@
 
 ghost use Rattle.std.specs.Prelude.{true, not, cond, ◌≡◌, ◌+◌, ◌≤◌, ◌<◌, length, get_or, take};
 ghost use Rattle.matrix.specs.Range.{every};
-ghost use Rattle.matrix.specs.Matrix.{entry};
 ghost use Rattle.clifford.specs.Columns.{are_column_bytes, signed};
 ghost use Rattle.sheet_bytes.specs.Bytes.{shortest, longest, sign_byte, sheet_bytes, sheet_columns};
 ghost use Rattle.sheet_bytes.specs.Sheet.{is_counted, is_number, is_clifford, has_wrong_sign, bytes_refusal};

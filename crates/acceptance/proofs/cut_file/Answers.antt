@@ -4,12 +4,11 @@ use mathlib.Core.List.{List}
 use Prim.Native.Nat.{ℕ, ◌<◌}
 use native.Mathlib.Omega.{arith}
 use lib.ListN.{length}
-use borrow.Author.Rules.{rules}
 use borrow.Author.Tests.{not-true, not-false, lt-ltb}
 use Rattle.matrix.specs.Matrix.{entry}
 use Rattle.matrix.specs.Operator.{operator}
 use Rattle.file.specs.File.{exponent_of, file_exponent, InForm, kind_of, length_of}
-use Rattle.file.specs.Laws.File.{is_length_lem, length_is, some_byte, file_bounded}
+use Rattle.file.specs.Laws.File.{is_length_lem, length_is, file_bounded}
 use Rattle.acceptance.specs.Acceptance.{entries_refusal, file_refusal}
 use Rattle.acceptance.specs.Cutting.{CutAs}
 use Rattle.acceptance.specs.Laws.Acceptance.{range_most, in_form}

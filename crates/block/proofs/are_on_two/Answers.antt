@@ -1,15 +1,11 @@
 use mathlib.Core.Path.{◌≡◌, sym, ap, ◌∙◌}
-use Prim.Native.Nat.{ℕ, ◌+◌, ◌*◌, ◌-◌, ◌≤◌, ◌<◌}
-use mathlib.Core.Bool.{Bool}
-use mathlib.Core.List.{List}
+use Prim.Native.Nat.{◌-◌}
 use native.Mathlib.Omega.{arith}
-use lib.ListN.{length}
 use borrow.Author.Rules.{rules}
 use borrow.Author.Tests.{not-true, not-false}
 use Rattle.matrix.specs.Range.{every_from}
 use Rattle.matrix.specs.Laws.Range.{every_next, every_stop}
-use Rattle.block.specs.Block.{block_count, block_at, is_on_two, are_on_two}
-use Rattle.block.specs.Laws.Block.{block_inside, block_number}
+use Rattle.block.specs.Block.{block_count, is_on_two}
 use Rattle.block.proofs.are_on_two.Invariants.{on_two_at}
 use Rattle.block.proofs.are_on_two.Goals as goal
 

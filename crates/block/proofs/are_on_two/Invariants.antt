@@ -1,16 +1,11 @@
 -- The invariant: the blocks before n pass, so that the rest decides, and the first two bytes of each block are there.
-use mathlib.Core.Path.{◌≡◌, sym, ap, ◌∙◌}
+use mathlib.Core.Path.{◌≡◌}
 use Prim.Native.Nat.{ℕ, ◌+◌, ◌*◌, ◌-◌, ◌≤◌, ◌<◌}
 use mathlib.Core.Bool.{Bool}
 use mathlib.Core.List.{List}
-use native.Mathlib.Omega.{arith}
 use lib.ListN.{length}
-use borrow.Author.Rules.{rules}
-use borrow.Author.Tests.{not-true, not-false}
 use Rattle.matrix.specs.Range.{every_from}
-use Rattle.matrix.specs.Laws.Range.{every_next, every_stop}
-use Rattle.block.specs.Block.{block_count, block_at, is_on_two, are_on_two}
-use Rattle.block.specs.Laws.Block.{block_inside, block_number}
+use Rattle.block.specs.Block.{block_at, is_on_two, are_on_two}
 use Rattle.block.proofs.are_on_two.Given as goal
 
 abbrev pub on_two_at : ℕ → List ℕ → ℕ → Bool

@@ -3,7 +3,6 @@ use mathlib.Core.Path.{sym, ap, ap₂, ◌∙◌}
 use Prim.Native.Nat.{◌-◌}
 use native.Mathlib.Omega.{arith}
 use lib.ListN.{get_or}
-use borrow.Author.Rules.{rules}
 use Rattle.bundle.specs.declared.Part.TheVariants.{At, Refused}
 use Rattle.bundle.specs.Laws.Read.{Found, found, part_found, part_missing}
 use Rattle.bundle.proofs.bundle_part.Goals as goal

@@ -3,7 +3,6 @@ use mathlib.Core.Path.{◌≡◌, sym, ◌∙◌}
 use mathlib.Core.Bool.{true}
 use native.Mathlib.Omega.{arith}
 use lib.ListN.{length}
-use borrow.Author.Rules.{rules}
 use borrow.Author.Tests.{lt-leb, le-leb, lt-ltb, le-ltb, not-true, not-false}
 use Rattle.bundle.specs.Bundle.{most_sheets, sheet_count, trailer_length, has_trailer, bundle_refusal}
 use Rattle.bundle.proofs.bundle_refusal.Goals as goal

@@ -1,18 +1,12 @@
 -- The invariant: the walk stands where sheet `count` would start, and the sheets before it are whole, so that the rest decides.
-use mathlib.Core.Path.{◌≡◌, refl, sym, ap, ◌∙◌}
-use mathlib.Core.Logic.{◌≢◌}
-use mathlib.Core.Bool.{Bool, true, false, not, cond}
+use mathlib.Core.Path.{◌≡◌}
+use mathlib.Core.Bool.{Bool, not}
 use mathlib.Core.List.{List}
-use Prim.Native.Nat.{ℕ, suc, ◌+◌, ◌-◌, ◌≤◌}
-use native.Mathlib.Omega.{arith}
+use Prim.Native.Nat.{ℕ, suc, ◌-◌, ◌≤◌}
 use lib.ListN.{length}
-use borrow.Author.Rules.{rules}
 use Rattle.matrix.specs.Range.{first_from}
-use Rattle.matrix.specs.Laws.Range.{first_here, first_next}
-use Rattle.bundle.specs.Bundle.{most_sheets, length_at, start_of}
-use Rattle.bundle.specs.Laws.Read.{start_first, start_next}
+use Rattle.bundle.specs.Bundle.{most_sheets, start_of}
 use Rattle.bundle_write.specs.Writing.{is_whole, stored_count}
-use Rattle.bundle_write.specs.Laws.Stored.{whole_sound}
 use Rattle.bundle_write.proofs.count_sheets.Given as goal
 
 -- where no sheet stands

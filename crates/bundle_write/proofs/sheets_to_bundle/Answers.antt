@@ -1,7 +1,6 @@
 -- Each return is the promise by its outcome.
 use mathlib.Core.Path.{sym, ap, ◌∙◌}
 use native.Mathlib.Omega.{arith}
-use borrow.Author.Rules.{rules}
 use Rattle.file.specs.Laws.Written.{appended_as}
 use Rattle.bundle.specs.Bundle.{bundle_of}
 use Rattle.bundle_write.specs.Writing.{sheets_bundle}

@@ -1,6 +1,5 @@
 -- The sheets, the offsets and the number follow one another.
 use native.Mathlib.Omega.{arith}
-use borrow.Author.Rules.{rules}
 use Rattle.file.specs.Laws.Written.{appended_length, appended_append}
 use Rattle.bundle.specs.Bundle.{bundle_of}
 use Rattle.bundle.specs.Laws.Made.{length_offsets}

@@ -1,15 +1,8 @@
 -- The invariant: `good` says whether all bytes from c on are columns'.
-use mathlib.Core.Path.{◌≡◌, sym, ap, ◌∙◌}
-use Prim.Native.Nat.{ℕ, ◌-◌, ◌≤◌, ◌<◌}
-use native.Mathlib.Omega.{arith}
-use native.Mathlib.Nat.{le_of_eq}
-use mathlib.Core.Bool.{◌&&◌}
-use mathlib.Core.List.{List}
-use lib.ListN.{length, get_or, drop, drop_of_length-le}
-use Rattle.matrix.specs.Laws.Range.{drop_down}
-use Rattle.clifford.specs.Columns.{is_column_byte, are_column_bytes}
-use borrow.Author.Rules.{rules}
-use borrow.Author.Tests.{not-true, not-false}
+use mathlib.Core.Path.{◌≡◌}
+use Prim.Native.Nat.{◌≤◌}
+use lib.ListN.{drop}
+use Rattle.clifford.specs.Columns.{are_column_bytes}
 use Rattle.clifford.proofs.are_column_bytes.Given as goal
 
 abbrev pub invariant-loop-c : goal.invariant-loop-c

@@ -1,22 +1,13 @@
 -- The invariant: the entries of the column before row r are 0, so those from r on decide.
-use mathlib.Core.Path.{◌≡◌, refl, sym, ap, ◌∙◌}
-use Prim.Native.Nat.{ℕ, ◌+◌, ◌-◌, ◌≤◌}
-use native.Mathlib.Omega.{arith}
-use mathlib.Core.Bool.{Bool, not, cond}
+use mathlib.Core.Path.{◌≡◌}
+use Prim.Native.Nat.{ℕ, ◌-◌, ◌≤◌}
+use mathlib.Core.Bool.{Bool, not}
 use mathlib.Core.List.{List}
-use lib.Dec.{lit<}
 use lib.IntN.{ℤ, pos}
-use lib.ListN.{length, get_or-eq_default}
-use mir.Syntax.{w64}
-use mir.Val.{of_z}
 use Rattle.matrix.specs.Range.{first_from}
 use Rattle.matrix.specs.Integer.{equals}
 use Rattle.matrix.specs.Matrix.{entry}
-use Rattle.matrix.specs.Laws.Integer.{equals_yes, equals_no}
-use Rattle.matrix.specs.Laws.Range.{first_here, first_next}
-use Rattle.matrix.specs.Laws.Machine.{same_bits}
-use Rattle.clifford.specs.Columns.{column_row, column_byte}
-use borrow.Author.Rules.{rules}
+use Rattle.clifford.specs.Columns.{column_row}
 use Rattle.clifford.proofs.column_byte.Given as goal
 
 abbrev pub nonzero : List ℤ → ℕ → ℕ → Bool

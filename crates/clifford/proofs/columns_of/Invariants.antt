@@ -1,11 +1,8 @@
 -- The invariant: the bytes before c are those of the columns.
-use mathlib.Core.Path.{◌≡◌, refl}
 use Prim.Native.Nat.{◌-◌, ◌≤◌}
-use native.Mathlib.Omega.{arith}
 use Rattle.matrix.specs.Matrix.{entry}
-use Rattle.matrix.specs.Laws.Range.{Filled, filled_none, filled_more, filled_all}
+use Rattle.matrix.specs.Laws.Range.{Filled}
 use Rattle.clifford.specs.Columns.{column_byte}
-use borrow.Author.Rules.{rules}
 use Rattle.clifford.proofs.columns_of.Given as goal
 
 abbrev pub invariant-loop-c : goal.invariant-loop-c

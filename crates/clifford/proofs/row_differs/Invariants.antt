@@ -1,16 +1,9 @@
 -- The invariant: `good` says whether no column from d on has the row of column c.
-use mathlib.Core.Path.{◌≡◌, sym, ap, ◌∙◌}
-use Prim.Native.Nat.{ℕ, ◌+◌, ◌-◌, ◌≤◌, ◌<◌}
-use native.Mathlib.Omega.{arith}
-use native.Mathlib.Nat.{le_of_eq}
-use mathlib.Core.Bool.{not, ◌&&◌}
-use mathlib.Core.List.{List, map}
-use lib.ListN.{length, drop, get_or, drop_of_length-le}
-use lib.Dec.{eqb}
-use borrow.Author.Tests.{eq-eqb, ne_eqb}
-use Rattle.matrix.specs.Laws.Range.{drop_down}
+use mathlib.Core.Path.{◌≡◌}
+use Prim.Native.Nat.{◌≤◌, ◌<◌}
+use mathlib.Core.List.{map}
+use lib.ListN.{drop, get_or}
 use Rattle.clifford.specs.Columns.{row_of, differs}
-use borrow.Author.Rules.{rules}
 use Rattle.clifford.proofs.row_differs.Given as goal
 
 abbrev pub invariant-loop-d : goal.invariant-loop-d

@@ -1,6 +1,6 @@
 -- Operators times a sign (document 02, P9: "0 for M and 1 for −M"): signs come out of products, the least exponent does not see them, and an
 -- operator has one.
-use Rattle.std.specs.Prelude.{◌≡◌, refl, Bool, true, false, cond, ℕ, zero, suc, ◌+◌, ◌%◌, ◌<◌, ◌≤◌, eqb, ℤ, pos, negsuc, ◌*ℤ◌}
+use Rattle.std.specs.Prelude.{◌≡◌, refl, Bool, true, false, cond, ℕ, zero, suc, ◌+◌, ◌%◌, ◌<◌, ◌≤◌, eqb, pos, negsuc, ◌*ℤ◌}
 use Rattle.std.proofs.Common.{sym, ap, ◌∙◌, inl, inr, arith}
 use Rattle.matrix.specs.Matrix.{Matrix, product, scaled}
 use Rattle.matrix.specs.Operator.{Operator, operator, times_operator, SameOperator, SameUpToSign, Orthogonal, LeastExponent}

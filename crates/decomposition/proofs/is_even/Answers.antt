@@ -1,9 +1,8 @@
 -- The sum of the three inversions and the three signs is the definition's.
 use mathlib.Core.Path.{◌≡◌, ap}
-use mathlib.Core.List.{[], ◌∷◌, map}
+use mathlib.Core.List.{◌∷◌, map}
 use Prim.Native.Nat.{◌+◌, ◌%◌}
 use native.Mathlib.Omega.{arith}
-use borrow.Author.Rules.{rules}
 use lib.Dec.{eqb}
 use Rattle.clifford.specs.Columns.{row_of, inversions, minuses, is_even}
 use Rattle.decomposition.proofs.is_even.Goals as goal

@@ -1,9 +1,7 @@
 -- A row of the table of inverses has the bytes of columns, as the product asks.
 use mathlib.Core.Path.{ap, ap₂, ◌∙◌}
-use mathlib.Core.List.{[]}
 use Prim.Native.Nat.{◌+◌}
 use native.Mathlib.Omega.{arith}
-use borrow.Author.Rules.{rules}
 use lib.ListN.{get_or}
 use Rattle.letter.specs.Composition.{composed}
 use Rattle.word.specs.Word.{part_inverses, local_columns}

@@ -5,7 +5,6 @@ use Prim.Native.Nat.{◌^◌, ◌<◌}
 use Rattle.file.specs.declared.Wrote.TheVariants.{Refused}
 use Rattle.answer_word.specs.Encoding.{bytes_of}
 use Rattle.dimfrets.specs.Laws.Answers.{text_fits}
-use borrow.Author.Rules.{rules}
 use Rattle.dimfrets.proofs.dimfrets_gates_to_qasm.Goals as goal
 
 pub encode_wrote-requires : goal.encode_wrote-requires

@@ -1,6 +1,5 @@
 -- The word is that of the call's answer, which is never refusal 0 and has fewer than 2^16 letters.
 use Rattle.dimfrets.specs.Laws.Answers.{gates_fit}
-use borrow.Author.Rules.{rules}
 use Rattle.dimfrets.proofs.dimfrets_operator_to_gates.Goals as goal
 
 pub encode_listed-requires : goal.encode_listed-requires

@@ -1,7 +1,6 @@
 -- The word is that of the call's answer, which is never refusal 0.
 use mathlib.Core.Path.{sym, ◌∙◌}
 use Rattle.dimfrets.specs.Laws.Answers.{sheet_not_zero}
-use borrow.Author.Rules.{rules}
 use Rattle.dimfrets.proofs.dimfrets_operator_to_sheet.Goals as goal
 
 pub encode_cuts-requires : goal.encode_cuts-requires

@@ -5,7 +5,6 @@ use Prim.Native.Nat.{◌^◌, ◌<◌}
 use Rattle.file.specs.declared.Wrote.TheVariants.{Refused}
 use Rattle.answer_word.specs.Encoding.{bytes_of}
 use Rattle.dimfrets.specs.Laws.Answers.{letters_fit}
-use borrow.Author.Rules.{rules}
 use Rattle.dimfrets.proofs.dimfrets_qasm_to_gates.Goals as goal
 
 pub encode_wrote-requires : goal.encode_wrote-requires

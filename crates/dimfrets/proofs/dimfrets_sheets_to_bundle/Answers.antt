@@ -3,7 +3,6 @@ use mathlib.Core.Path.{sym, subst, ◌∙◌}
 use Prim.Native.Nat.{◌^◌, ◌<◌}
 use Rattle.answer_word.specs.Encoding.{bytes_of}
 use Rattle.dimfrets.specs.Laws.Answers.{bundle_not_zero, bundle_bytes}
-use borrow.Author.Rules.{rules}
 use Rattle.dimfrets.proofs.dimfrets_sheets_to_bundle.Goals as goal
 
 pub encode_wrote-requires : goal.encode_wrote-requires

@@ -1,8 +1,6 @@
 -- The word is that of the call's answer, which is never refusal 0.
-use mathlib.Core.Path.{sym, subst, ◌∙◌}
-use Rattle.answer_word.specs.Encoding.{answer_parts, WordOf}
+use mathlib.Core.Path.{sym, ◌∙◌}
 use Rattle.dimfrets.specs.Laws.Answers.{order_not_zero}
-use borrow.Author.Rules.{rules}
 use Rattle.dimfrets.proofs.dimfrets_states_to_order.Goals as goal
 
 pub encode_answer-requires : goal.encode_answer-requires

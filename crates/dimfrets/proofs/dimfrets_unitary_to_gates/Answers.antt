@@ -1,6 +1,5 @@
 -- The word is that of the call's answer, which is never refusal 0 and has fewer than 2^16 letters.
 use Rattle.dimfrets.specs.Laws.Answers.{unitary_fits}
-use borrow.Author.Rules.{rules}
 use Rattle.dimfrets.proofs.dimfrets_unitary_to_gates.Goals as goal
 
 pub encode_synthesis-requires : goal.encode_synthesis-requires

@@ -1,12 +1,7 @@
-use mathlib.Core.Path.{◌≡◌, refl, ◌∙◌}
-use Prim.Native.Nat.{◌-◌, ◌≤◌}
+use mathlib.Core.Path.{◌≡◌, refl}
 use native.Mathlib.Omega.{arith}
-use lib.IntN.{pos}
-use lib.ListN.{length}
-use Rattle.matrix.specs.Laws.Range.{Filled, filled_none, filled_more, filled_all}
-use Rattle.matrix.specs.Laws.Machine.{kept}
-use Rattle.file.specs.File.{entry_of, file_matrix, kind_of}
-use borrow.Author.Rules.{rules}
+use Rattle.matrix.specs.Laws.Range.{filled_all}
+use Rattle.file.specs.File.{file_matrix}
 use Rattle.file.proofs.decode.Goals as goal
 
 pub returns : goal.returns

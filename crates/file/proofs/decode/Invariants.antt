@@ -1,13 +1,9 @@
 -- The invariant: the elements of `m` before n are the entries.
-use mathlib.Core.Path.{◌≡◌, refl, ◌∙◌}
 use Prim.Native.Nat.{◌-◌, ◌≤◌}
-use native.Mathlib.Omega.{arith}
 use lib.IntN.{pos}
 use lib.ListN.{length}
-use Rattle.matrix.specs.Laws.Range.{Filled, filled_none, filled_more, filled_all}
-use Rattle.matrix.specs.Laws.Machine.{kept}
-use Rattle.file.specs.File.{entry_of, file_matrix, kind_of}
-use borrow.Author.Rules.{rules}
+use Rattle.matrix.specs.Laws.Range.{Filled}
+use Rattle.file.specs.File.{entry_of, kind_of}
 use Rattle.file.proofs.decode.Given as goal
 
 abbrev pub invariant-loop-n : goal.invariant-loop-n

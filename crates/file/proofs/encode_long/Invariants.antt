@@ -1,11 +1,8 @@
 -- The invariant: the exponent and the entries before n are written.
-use mathlib.Core.Path.{ap, ◌∙◌}
 use Prim.Native.Nat.{◌-◌, ◌≤◌}
-use native.Mathlib.Omega.{arith}
-use lib.ListN.{length, length-set}
-use borrow.Author.Rules.{rules}
-use Rattle.file.specs.File.{long_file, long_length, highest_of, bits_of}
-use Rattle.file.specs.Laws.Encoding.{Begun, stored_entry, begun_none, begun_length, begun_more, begun_all}
+use lib.ListN.{length}
+use Rattle.file.specs.File.{long_file, long_length}
+use Rattle.file.specs.Laws.Encoding.{Begun}
 use Rattle.file.proofs.encode_long.Given as goal
 
 abbrev pub invariant-loop-n : goal.invariant-loop-n

@@ -1,10 +1,9 @@
 use mathlib.Core.Path.{ap, ◌∙◌}
-use Prim.Native.Nat.{◌-◌, ◌≤◌}
 use native.Mathlib.Omega.{arith}
-use lib.ListN.{length, length-set}
+use lib.ListN.{length-set}
 use borrow.Author.Rules.{rules}
-use Rattle.file.specs.File.{short_file, short_length, highest_of, bits_of}
-use Rattle.file.specs.Laws.Encoding.{Begun, stored_entry, begun_none, begun_length, begun_more, begun_all}
+use Rattle.file.specs.File.{short_file, highest_of, bits_of}
+use Rattle.file.specs.Laws.Encoding.{stored_entry, begun_none, begun_more, begun_all}
 use Rattle.file.proofs.encode_short.Goals as goal
 
 pub loop-n-init : goal.loop-n-init

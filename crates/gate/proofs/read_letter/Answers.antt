@@ -6,10 +6,9 @@ use Prim.Native.Nat.{ℕ, ◌+◌, ◌<◌, ◌≤◌}
 use native.Mathlib.Omega.{arith}
 use lib.Dec.{ltb}
 use lib.IntN.{ℤ}
-use borrow.Author.Rules.{rules}
 use borrow.Author.Tests.{lt-ltb, le-ltb}
 use Rattle.matrix.specs.Matrix.{entry, listed, product}
-use Rattle.matrix.specs.Array.{Least, least, least_form}
+use Rattle.matrix.specs.Array.{Least, least_form}
 use Rattle.matrix.specs.Laws.Array.{orthogonal_bounded}
 use Rattle.file.specs.File.{largest_exponent, no_operator}
 use Rattle.residue.specs.Generator.{generator}

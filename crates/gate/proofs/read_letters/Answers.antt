@@ -1,11 +1,7 @@
-use Prim.Native.Nat.{◌-◌}
 use native.Mathlib.Omega.{arith}
-use lib.ListN.{length}
-use borrow.Author.Rules.{rules}
 use Rattle.matrix.specs.Matrix.{entry}
 use Rattle.matrix.specs.Laws.Array.{orthogonal_bounded}
-use Rattle.gate.specs.Stretch.{times_columns}
-use Rattle.gate.specs.Laws.Letters.{ReadTo, read_none, read_orthogonal, read_all, read_stretch, read_more, read_over}
+use Rattle.gate.specs.Laws.Letters.{read_none, read_orthogonal, read_all, read_stretch, read_more, read_over}
 use Rattle.gate.proofs.read_letters.Goals as goal
 
 pub loop-n-init : goal.loop-n-init

@@ -1,15 +1,14 @@
 use mathlib.Core.Path.{◌≡◌, sym, subst}
 use mathlib.Core.Bool.{true, false}
 use mathlib.Core.List.{List}
-use Prim.Native.Nat.{ℕ, ◌+◌, ◌-◌, ◌<◌}
+use Prim.Native.Nat.{ℕ, ◌+◌, ◌<◌}
 use native.Mathlib.Omega.{arith}
 use lib.ListN.{length, get_or}
-use borrow.Author.Rules.{rules}
-use borrow.Author.Tests.{not-true, not-false}
+use borrow.Author.Tests.{not-false}
 use Rattle.letter.specs.Gate.{gate_of}
 use Rattle.gate.specs.declared.Composed.{Composed}
-use Rattle.gate.specs.Stretch.{ComposedWith, CliffordLetters, StretchOf}
-use Rattle.gate.specs.Laws.Stretch.{letters_none, letters_more, onto, ending}
+use Rattle.gate.specs.Stretch.{ComposedWith, CliffordLetters}
+use Rattle.gate.specs.Laws.Stretch.{letters_none, letters_more, onto}
 use Rattle.gate.proofs.read_stretch.Goals as goal
 
 turn : (bs : List ℕ) (at : ℕ) (cs : List ℕ) (n : ℕ) → CliffordLetters bs at cs n → n < length bs → (r : Composed) → ComposedWith cs (gate_of (get_or bs n 0)) r → r.clifford ≡ true → CliffordLetters bs at r.columns (n + 1)

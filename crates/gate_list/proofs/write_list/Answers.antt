@@ -1,16 +1,14 @@
 use mathlib.Core.Path.{◌≡◌, sym, ap, ◌∙◌}
-use Prim.Native.Nat.{◌+◌, ◌*◌, ◌-◌, ◌≤◌}
+use Prim.Native.Nat.{◌+◌, ◌*◌, ◌≤◌}
 use native.Mathlib.Omega.{arith}
-use lib.ListN.{length, get_or, take}
+use lib.ListN.{length}
 use lib.Seq.{get_or-take}
 use borrow.Author.Rules.{rules}
 use Rattle.letter.specs.Composition.{composed}
 use Rattle.word.specs.Word.{clifford_word, word_sign}
-use Rattle.gate_list.specs.List.{left_of, right_of}
-use Rattle.gate_list.specs.Laws.Stretches.{sign_small}
-use Rattle.letter.specs.Laws.Written.{written_as, written_length}
-use Rattle.word.specs.Laws.Word.{word_length}
-use Rattle.gate_list.specs.Laws.Listing.{Listing, listing_none, same_size, place, listing_more, listing_all, listing_sign, counted, counted_number}
+use Rattle.gate_list.specs.List.{right_of}
+use Rattle.letter.specs.Laws.Written.{written_as}
+use Rattle.gate_list.specs.Laws.Listing.{listing_none, listing_more, listing_all, listing_sign, counted, counted_number}
 use Rattle.gate_list.proofs.write_list.Goals as goal
 
 -- the last word.

@@ -3,7 +3,6 @@ use mathlib.Core.Path.{ap}
 use Prim.Native.Nat.{◌+◌, ◌*◌, ◌-◌}
 use native.Mathlib.Omega.{arith}
 use lib.ListN.{get_or}
-use borrow.Author.Rules.{rules}
 use Rattle.letter.specs.Composition.{composed}
 use Rattle.gate_list.specs.List.{left_of, right_of, stretch}
 use Rattle.gate_list.specs.Laws.Stretches.{sign_small, stretch_short, code_letters, code_sign}

@@ -1,10 +1,10 @@
 use mathlib.Core.Path.{refl, sym, ap₂, subst, ◌∙◌}
-use mathlib.Core.List.{[], ◌∷◌}
+use mathlib.Core.List.{◌∷◌}
 use Prim.Native.Nat.{◌^◌}
 use lib.Dec.{lit<}
 use lib.IntN.{pos}
 use native.Mathlib.Omega.{arith}
-use Rattle.matrix.specs.Laws.Machine.{fits, again, exact, stored, sub}
+use Rattle.matrix.specs.Laws.Machine.{again, exact, stored, sub}
 use Rattle.matrix.specs.Laws.Ring.{var, num, ◌:-◌, :neg, ring}
 use Rattle.gaussian.specs.Gaussian.{gaussian, Within, conj}
 use Rattle.gaussian.specs.Laws.Size.{within_conj}

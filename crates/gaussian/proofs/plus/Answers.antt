@@ -1,6 +1,6 @@
 use mathlib.Core.Path.{ap₂}
 use lib.Dec.{lit<}
-use Rattle.matrix.specs.Laws.Machine.{fits, again, stored, add}
+use Rattle.matrix.specs.Laws.Machine.{again, stored, add}
 use Rattle.gaussian.specs.Gaussian.{gaussian, ◌⊕◌}
 use Rattle.gaussian.proofs.plus.Goals as goal
 

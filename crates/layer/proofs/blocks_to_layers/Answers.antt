@@ -1,7 +1,6 @@
 -- Each return is the promise by its outcome.
 use mathlib.Core.Path.{sym, ◌∙◌}
 use native.Mathlib.Omega.{arith}
-use borrow.Author.Rules.{rules}
 use Rattle.layer.specs.Laws.Promise.{promise_refused, promise_short, promise_written}
 use Rattle.layer.proofs.blocks_to_layers.Goals as goal
 

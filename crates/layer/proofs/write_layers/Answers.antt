@@ -1,15 +1,15 @@
 use mathlib.Core.Path.{◌≡◌, sym, ap, ◌∙◌}
-use Prim.Native.Nat.{◌+◌, ◌-◌, ◌≤◌}
+use Prim.Native.Nat.{◌+◌}
 use native.Mathlib.Omega.{arith}
 use borrow.Author.Rules.{rules}
-use Rattle.matrix.specs.Laws.Range.{Filled, filled_none, filled_more}
+use Rattle.matrix.specs.Laws.Range.{filled_none, filled_more}
 use Rattle.file.specs.File.{written}
 use Rattle.file.specs.Laws.Written.{filled_written}
 use Rattle.block.specs.Block.{block_count, block_at}
 use Rattle.layer.specs.Layer.{highest}
 use Rattle.layer.specs.Laws.Layer.{layer_of, layers_all}
 use Rattle.layer.specs.Laws.Count.{layers_count}
-use Rattle.layer.specs.Laws.Turn.{Turn, turn_first, turn_on_two, turn_small, turn_layer, turn_next}
+use Rattle.layer.specs.Laws.Turn.{turn_first, turn_on_two, turn_small, turn_layer, turn_next}
 use Rattle.layer.proofs.write_layers.Goals as goal
 
 pub loop-n-init : goal.loop-n-init

@@ -1,14 +1,12 @@
 use mathlib.Core.Path.{◌≡◌, sym, ◌∙◌}
-use mathlib.Core.List.{List, map}
-use Prim.Native.Nat.{ℕ, ◌-◌, ◌≤◌}
+use mathlib.Core.List.{map}
 use native.Mathlib.Omega.{arith}
 use borrow.Author.Rules.{rules}
-use lib.ListN.{length, get_or, length-map, get_or-map}
+use lib.ListN.{length, length-map, get_or-map}
 use lib.Seq.{ext_get_or}
-use Rattle.matrix.specs.Laws.Range.{Filled, filled_none, filled_more}
+use Rattle.matrix.specs.Laws.Range.{filled_more}
 use Rattle.letter.specs.Composition.{image_of}
 use Rattle.letter.specs.Laws.Bytes.{byte_in}
-use Rattle.letter.proofs.compose.Invariants.{image_at}
 use Rattle.letter.proofs.compose.Goals as goal
 
 pub image-requires : goal.image-requires

@@ -1,14 +1,9 @@
 -- The invariant: the columns before c are those of the product.
-use mathlib.Core.Path.{◌≡◌, sym, ◌∙◌}
-use mathlib.Core.List.{List, map}
+use mathlib.Core.List.{List}
 use Prim.Native.Nat.{ℕ, ◌-◌, ◌≤◌}
-use native.Mathlib.Omega.{arith}
-use borrow.Author.Rules.{rules}
-use lib.ListN.{length, get_or, length-map, get_or-map}
-use lib.Seq.{ext_get_or}
-use Rattle.matrix.specs.Laws.Range.{Filled, filled_none, filled_more}
+use lib.ListN.{get_or}
+use Rattle.matrix.specs.Laws.Range.{Filled}
 use Rattle.letter.specs.Composition.{image_of}
-use Rattle.letter.specs.Laws.Bytes.{byte_in}
 use Rattle.letter.proofs.compose.Given as goal
 
 abbrev pub image_at : List ℕ → List ℕ → ℕ → ℕ

@@ -3,7 +3,6 @@ use native.Mathlib.Omega.{arith}
 use lib.ListN.{length-append}
 use Rattle.file.specs.Laws.Written.{appended_append}
 use Rattle.text.specs.Text.{count_line, gates_line}
-use borrow.Author.Rules.{rules}
 use Rattle.line.proofs.write_list.Goals as goal
 
 pub returns : goal.returns

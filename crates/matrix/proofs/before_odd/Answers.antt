@@ -1,12 +1,12 @@
 use mathlib.Core.Path.{◌≡◌, refl, sym, ap, ◌∙◌}
-use Prim.Native.Nat.{◌-◌, ◌/◌, ◌%◌, ◌≤◌}
+use Prim.Native.Nat.{◌/◌, ◌%◌}
 use native.Mathlib.Omega.{arith}
 use borrow.Author.Rules.{rules}
 use borrow.Author.Tests.{eq-eqb, ne_eqb}
 use Rattle.matrix.specs.Range.{first_from}
 use Rattle.matrix.specs.Integer.{parity}
 use Rattle.matrix.specs.Matrix.{entry}
-use Rattle.matrix.specs.Array.{odd_at, before_odd}
+use Rattle.matrix.specs.Array.{before_odd}
 use Rattle.matrix.specs.Laws.Range.{first_here, first_next}
 use Rattle.matrix.specs.Laws.Array.{entry_flat}
 use Rattle.matrix.specs.Laws.Machine.{kept}

@@ -1,16 +1,9 @@
 -- The invariant: the entries before n are even, so the first odd one is among those from n on.
-use mathlib.Core.Path.{◌≡◌, refl, sym, ap, ◌∙◌}
-use Prim.Native.Nat.{◌-◌, ◌/◌, ◌%◌, ◌≤◌}
-use native.Mathlib.Omega.{arith}
-use borrow.Author.Rules.{rules}
-use borrow.Author.Tests.{eq-eqb, ne_eqb}
+use mathlib.Core.Path.{◌≡◌}
+use Prim.Native.Nat.{◌-◌, ◌≤◌}
 use Rattle.matrix.specs.Range.{first_from}
-use Rattle.matrix.specs.Integer.{parity}
 use Rattle.matrix.specs.Matrix.{entry}
 use Rattle.matrix.specs.Array.{odd_at, before_odd}
-use Rattle.matrix.specs.Laws.Range.{first_here, first_next}
-use Rattle.matrix.specs.Laws.Array.{entry_flat}
-use Rattle.matrix.specs.Laws.Machine.{kept}
 use Rattle.matrix.proofs.before_odd.Given as goal
 
 abbrev pub invariant-loop-n : goal.invariant-loop-n

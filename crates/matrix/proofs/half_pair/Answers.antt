@@ -1,13 +1,12 @@
 -- The sum and the difference of two entries of at most 2^30 fit, and so do their halves.
 use mathlib.Core.Path.{ap₂}
 use Prim.Native.Nat.{◌^◌}
-use borrow.Author.Rules.{rules}
 use lib.Dec.{lit<}
 use lib.IntN.{ℤ, pos, ◌+ℤ◌, ◌-ℤ◌}
 use lib.ListN.{get_or, set}
 use mir.Syntax.{w64}
 use mir.Val.{to_z, of_z}
-use Rattle.matrix.specs.Laws.Machine.{Sized, fits, again, stored, add, sub, halve}
+use Rattle.matrix.specs.Laws.Machine.{Sized, again, stored, add, sub, halve}
 use Rattle.matrix.proofs.half_pair.Goals as goal
 
 -- the two entries

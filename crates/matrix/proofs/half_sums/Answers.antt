@@ -1,6 +1,6 @@
 use mathlib.Core.List.{List}
 use mathlib.Core.Path.{◌≡◌, ◌∙◌}
-use Prim.Native.Nat.{ℕ, ◌+◌, ◌*◌, ◌-◌, ◌^◌, ◌≤◌, ◌<◌}
+use Prim.Native.Nat.{ℕ, ◌+◌, ◌*◌, ◌^◌, ◌≤◌, ◌<◌}
 use native.Mathlib.Omega.{arith}
 use borrow.Author.Rules.{rules}
 use lib.IntN.{ℤ, nat_abs, ◌+ℤ◌, ◌-ℤ◌}
@@ -9,7 +9,7 @@ use Rattle.matrix.specs.Integer.{half}
 use Rattle.matrix.specs.Matrix.{entry}
 use Rattle.matrix.specs.Array.{Bounded, half_sums, half_pair}
 use Rattle.matrix.specs.Laws.Array.{entry_set_same, entry_set_other, half_sums_case}
-use Rattle.matrix.specs.Laws.Rows.{ColumnsDone, columns_none, columns_more, columns_all}
+use Rattle.matrix.specs.Laws.Rows.{ColumnsDone, columns_more, columns_all}
 use Rattle.matrix.proofs.half_sums.Goals as goal
 
 module _ (m : List ℤ) (i j : ℕ) (ij : i < j) (hj : j < 6) (out : List ℤ) (c : ℕ) (hc : c < 6) (d : ColumnsDone (half_sums i j (entry m)) m c out) where

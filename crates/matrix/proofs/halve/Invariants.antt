@@ -1,22 +1,12 @@
 -- The invariant: the elements before n are halved, and from n on they are as they were.
-use mathlib.Core.Path.{◌≡◌, sym, ap, ◌∙◌}
+use mathlib.Core.Path.{◌≡◌}
 use Prim.Native.Nat.{ℕ, ◌-◌, ◌/◌, ◌%◌, ◌≤◌}
-use native.Mathlib.Omega.{arith}
 use mathlib.Core.List.{List}
-use lib.Dec.{lit<}
 use lib.IntN.{ℤ, pos}
-use lib.ListN.{length, get_or}
-use mir.Syntax.{w64}
-use mir.Val.{SFits}
-use mir.Facts.{to_z-of_z}
-use borrow.Author.Rules.{sfits_of}
-use Rattle.matrix.specs.Integer.{half}
-use Rattle.matrix.specs.Matrix.{entry, listed}
+use lib.ListN.{length}
+use Rattle.matrix.specs.Matrix.{entry}
 use Rattle.matrix.specs.Array.{halved}
-use Rattle.matrix.specs.Laws.Range.{Filled, filled_none, filled_more, filled_all}
-use Rattle.matrix.specs.Laws.Array.{entry_flat}
-use Rattle.matrix.specs.Laws.Machine.{fits_half}
-use borrow.Author.Rules.{rules}
+use Rattle.matrix.specs.Laws.Range.{Filled}
 use Rattle.matrix.proofs.halve.Given as goal
 
 abbrev pub half_at : List ℤ → ℕ → ℤ

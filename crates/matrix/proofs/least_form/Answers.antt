@@ -1,7 +1,5 @@
-use mathlib.Core.Path.{◌≡◌, refl, sym, ap, ◌∙◌}
+use mathlib.Core.Path.{sym, ap, ◌∙◌}
 use Prim.Native.Nat.{◌-◌}
-use borrow.Author.Rules.{rules}
-use lib.ListN.{length}
 use Rattle.matrix.specs.Matrix.{entry}
 use Rattle.matrix.specs.Array.{halved, least_form}
 use Rattle.matrix.specs.Laws.Array.{length_listed, least_turn, least_odd, least_small}

@@ -1,11 +1,7 @@
 -- The invariant: what is left has the least form of what came in.
-use mathlib.Core.Path.{◌≡◌, refl, sym, ap, ◌∙◌}
-use Prim.Native.Nat.{◌-◌}
-use borrow.Author.Rules.{rules}
+use mathlib.Core.Path.{◌≡◌}
 use lib.ListN.{length}
-use Rattle.matrix.specs.Matrix.{entry}
-use Rattle.matrix.specs.Array.{halved, least_form}
-use Rattle.matrix.specs.Laws.Array.{length_listed, least_turn, least_odd, least_small}
+use Rattle.matrix.specs.Array.{least_form}
 use Rattle.matrix.proofs.least_form.Given as goal
 
 abbrev pub invariant-loop-exponent : goal.invariant-loop-exponent

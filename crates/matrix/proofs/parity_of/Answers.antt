@@ -1,8 +1,7 @@
 -- The remainder by 2 is 0 exactly for an even number, also a negative one.
 use mathlib.Core.Path.{sym}
-use lib.Dec.{lit<}
 use mir.Facts.{to_z-of_z}
-use Rattle.matrix.specs.Laws.Machine.{fits_half, rem_even, rem_odd}
+use Rattle.matrix.specs.Laws.Machine.{rem_even, rem_odd}
 use Rattle.matrix.proofs.parity_of.Goals as goal
 
 pub returns-then-rest-eq0 : goal.returns-then-rest-eq0

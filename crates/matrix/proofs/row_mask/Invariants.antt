@@ -1,17 +1,11 @@
 -- The invariant: `mask` has the bits of the columns from c on, that of column c lowest.
-use mathlib.Core.Path.{◌≡◌, ap, ◌∙◌}
-use Prim.Native.Nat.{ℕ, ◌-◌, ◌≤◌, ◌<◌}
-use native.Mathlib.Omega.{arith}
+use mathlib.Core.Path.{◌≡◌}
+use Prim.Native.Nat.{ℕ, ◌-◌, ◌≤◌}
 use mathlib.Core.List.{List}
 use lib.IntN.{ℤ}
 use Rattle.matrix.specs.Range.{bits}
 use Rattle.matrix.specs.Integer.{parity}
 use Rattle.matrix.specs.Matrix.{entry}
-use Rattle.matrix.specs.Array.{row_mask}
-use Rattle.matrix.specs.Laws.Range.{bits_down, bits_small}
-use Rattle.matrix.specs.Laws.Parity.{parity_lt}
-use Rattle.matrix.specs.Laws.Machine.{kept}
-use borrow.Author.Rules.{rules}
 use Rattle.matrix.proofs.row_mask.Given as goal
 
 abbrev pub odd_at_lem : List ℤ → ℕ → ℕ → ℕ

@@ -1,20 +1,10 @@
-use mathlib.Core.Path.{◌≡◌, ◌∙◌}
-use Prim.Native.Nat.{ℕ, ◌+◌, ◌*◌, ◌-◌, ◌^◌, ◌≤◌, ◌<◌}
 use native.Mathlib.Numerals.{add-one}
 use native.Mathlib.Omega.{arith}
 use lib.Dec.{lit<}
-use lib.IntN.{ℤ, ◌+ℤ◌, ◌*ℤ◌}
-use mathlib.Core.List.{List}
 use borrow.Author.Rules.{rules}
-use mir.Syntax.{w64}
-use mir.Val.{to_z, of_z}
 use Rattle.matrix.specs.Range as range
-use Rattle.matrix.specs.Matrix.{entry}
-use Rattle.matrix.specs.Array.{Bounded}
-use Rattle.matrix.specs.Laws.Integer.{nat_abs_mul_le}
-use Rattle.matrix.specs.Laws.Sum.{sum_bound}
-use Rattle.matrix.specs.Laws.Machine.{Sized, fits, again, stored, add, mul}
-use Rattle.matrix.proofs.row_product.Invariants.{term, term_bound, product, so_far, next}
+use Rattle.matrix.specs.Laws.Machine.{fits, again}
+use Rattle.matrix.proofs.row_product.Invariants.{product, next}
 use Rattle.matrix.proofs.row_product.Goals as goal
 
 pub loop-c-init : goal.loop-c-init

@@ -1,12 +1,10 @@
 -- The invariant: `sum` holds the sum of the first c products. Six products of 2^60 fit.
-use mathlib.Core.Path.{◌≡◌, ◌∙◌}
+use mathlib.Core.Path.{◌≡◌}
 use Prim.Native.Nat.{ℕ, ◌+◌, ◌*◌, ◌-◌, ◌^◌, ◌≤◌, ◌<◌}
-use native.Mathlib.Numerals.{add-one}
 use native.Mathlib.Omega.{arith}
 use lib.Dec.{lit<}
 use lib.IntN.{ℤ, ◌+ℤ◌, ◌*ℤ◌}
 use mathlib.Core.List.{List}
-use borrow.Author.Rules.{rules}
 use mir.Syntax.{w64}
 use mir.Val.{to_z, of_z}
 use Rattle.matrix.specs.Range as range
@@ -14,7 +12,7 @@ use Rattle.matrix.specs.Matrix.{entry}
 use Rattle.matrix.specs.Array.{Bounded}
 use Rattle.matrix.specs.Laws.Integer.{nat_abs_mul_le}
 use Rattle.matrix.specs.Laws.Sum.{sum_bound}
-use Rattle.matrix.specs.Laws.Machine.{Sized, fits, again, stored, add, mul}
+use Rattle.matrix.specs.Laws.Machine.{Sized, again, stored, add, mul}
 use Rattle.matrix.proofs.row_product.Given as goal
 
 -- the product of the entries in column s

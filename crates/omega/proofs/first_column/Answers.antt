@@ -1,6 +1,6 @@
 -- Each entry's two numbers stand where the definition reads them, and owning the array tells that they fit.
 use mathlib.Core.Path.{◌≡◌, ap₂, ◌∙◌}
-use mathlib.Core.List.{List, [], ◌∷◌}
+use mathlib.Core.List.{List, ◌∷◌}
 use Prim.Native.Nat.{ℕ, zero, suc}
 use lib.Dec.{lit<}
 use lib.IntN.{ℤ, pos}
@@ -14,7 +14,6 @@ use mir.Facts.{to_z-of_z}
 use Rattle.matrix.specs.Range.{tabulate}
 use Rattle.gaussian.specs.Gaussian.{gaussian}
 use Rattle.omega.specs.Modular.{residue_of, first_column}
-use borrow.Author.Rules.{rules}
 use Rattle.omega.proofs.first_column.Goals as goal
 
 each_fits : (xs : List ℤ) (us : List Val) (i : ℕ) → shadow (each ℤ (SInt w64).own_val xs us) → SFits w64 (get_or xs i (pos 0))

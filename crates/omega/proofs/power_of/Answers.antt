@@ -1,12 +1,12 @@
 use mathlib.Core.Path.{◌≡◌, sym, ap, ◌∙◌}
 use mathlib.Core.List.{List}
-use Prim.Native.Nat.{ℕ, ◌-◌, ◌≤◌}
+use Prim.Native.Nat.{ℕ, ◌≤◌}
 use native.Mathlib.Omega.{arith}
 use lib.ListN.{length, get_or, take, length-take}
 use lib.Seq.{get_or-take}
-use Rattle.omega.specs.Modular.{Residues, undone_all, exponent_of}
+use Rattle.omega.specs.Modular.{undone_all, exponent_of}
 use Rattle.omega.specs.Laws.Modular.{first_residues}
-use Rattle.omega.specs.Laws.Undone.{Begun, begun_none, begun_more, begun_all}
+use Rattle.omega.specs.Laws.Undone.{begun_none, begun_more, begun_all}
 use borrow.Author.Rules.{rules}
 use Rattle.omega.proofs.power_of.Goals as goal
 

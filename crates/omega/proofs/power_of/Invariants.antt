@@ -1,14 +1,8 @@
 -- The invariant: the letters before place `at` are undone.
-use mathlib.Core.Path.{◌≡◌, sym, ap, ◌∙◌}
-use mathlib.Core.List.{List}
-use Prim.Native.Nat.{ℕ, ◌-◌, ◌≤◌}
-use native.Mathlib.Omega.{arith}
-use lib.ListN.{length, get_or, take, length-take}
-use lib.Seq.{get_or-take}
-use Rattle.omega.specs.Modular.{Residues, undone_all, exponent_of}
-use Rattle.omega.specs.Laws.Modular.{first_residues}
-use Rattle.omega.specs.Laws.Undone.{Begun, begun_none, begun_more, begun_all}
-use borrow.Author.Rules.{rules}
+use Prim.Native.Nat.{◌-◌, ◌≤◌}
+use lib.ListN.{take}
+use Rattle.omega.specs.Modular.{Residues}
+use Rattle.omega.specs.Laws.Undone.{Begun}
 use Rattle.omega.proofs.power_of.Given as goal
 
 abbrev pub invariant-loop-at : goal.invariant-loop-at

@@ -1,11 +1,9 @@
 -- The machine's remainder lies between −16 and 16, far from overflow.
 use mathlib.Core.Path.{◌≡◌}
-use Prim.Native.Nat.{ℕ, zero, suc, ◌/◌, ◌≤◌}
 use native.Mathlib.Nat.{lt_of_le_of_lt}
 use native.Mathlib.Omega.{arith}
-use lib.IntN.{ℤ, pos, negsuc, neg_ℤ, ◌+ℤ◌}
-use lib.Dec.{lit<}
-use lib.Signed.{mag, quot_z, rem_z, mag_rem}
+use lib.IntN.{ℤ, pos, ◌+ℤ◌}
+use lib.Signed.{rem_z, mag_rem}
 use mir.Syntax.{w64}
 use mir.Val.{SFits, to_z, of_z}
 use mir.Facts.{to_z-of_z}

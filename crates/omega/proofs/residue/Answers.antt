@@ -1,12 +1,8 @@
 -- The law of the residue, from the two remainders.
 use mathlib.Core.Path.{ap, ◌∙◌}
-use Prim.Native.Nat.{ℕ, ◌*◌, ◌^◌, ◌<◌, ◌≤◌}
-use native.Mathlib.Nat.{mul-le-mul}
-use native.Mathlib.Omega.{arith}
 use mir.Facts.{to_z-of_z}
 use Rattle.omega.specs.Modular.{remainder}
 use Rattle.omega.specs.Laws.Residue.{residue_is}
-use borrow.Author.Rules.{rules}
 use Rattle.omega.proofs.residue.Goals as goal
 
 pub returns : goal.returns

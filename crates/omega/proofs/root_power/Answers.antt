@@ -6,7 +6,6 @@ use native.Mathlib.Omega.{arith}
 use Rattle.matrix.specs.Range.{tabulate}
 use Rattle.matrix.specs.Laws.Range.{get_d_tabulate}
 use Rattle.omega.specs.Laws.Residue.{power_repeated}
-use borrow.Author.Rules.{rules}
 use Rattle.omega.proofs.root_power.Goals as goal
 
 pub returns : goal.returns

@@ -1,12 +1,7 @@
 -- By the cases of the gate.
 use mathlib.Core.Path.{sym, ap, ◌∙◌}
-use mathlib.Core.List.{List}
-use Prim.Native.Nat.{ℕ, ◌<◌}
-use native.Mathlib.Omega.{arith}
-use lib.ListN.{get_or}
-use Rattle.omega.specs.Modular.{Residues, undone}
+use Rattle.omega.specs.Modular.{undone}
 use Rattle.omega.specs.Laws.Undone.{undone_h1, undone_h2, undone_s1, undone_s2, undone_cz, undone_cs}
-use borrow.Author.Rules.{rules}
 use Rattle.omega.proofs.undo.Goals as goal
 
 pub returns-in-H1 : goal.returns-in-H1

@@ -3,7 +3,6 @@ use mathlib.Core.Path.{sym, ap, ◌∙◌}
 use Rattle.omega.specs.Modular.{undone}
 use Rattle.omega.specs.Laws.Modular.{undone_residues}
 use Rattle.omega.specs.Laws.Undone.{same_gate, no_gate}
-use borrow.Author.Rules.{rules}
 use Rattle.omega.proofs.undo_letter.Goals as goal
 
 pub returns-in-Is : goal.returns-in-Is

@@ -3,7 +3,6 @@ use mathlib.Core.Path.{sym, subst}
 use native.Mathlib.Omega.{arith}
 use Rattle.reduction.specs.Laws.NormalForm.{Numbers}
 use Rattle.operator.specs.Laws.Promise.{file_cutting, columns_bytes, ready, gates_refused, gates_no_room, gates_done}
-use borrow.Author.Rules.{rules}
 use Rattle.operator.proofs.operator_to_gates.Goals as goal
 
 pub returns-then-refusal-ne0 : goal.returns-then-refusal-ne0

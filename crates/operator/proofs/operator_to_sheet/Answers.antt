@@ -1,7 +1,6 @@
 -- Each way out is a case of the promise.
 use native.Mathlib.Omega.{arith}
 use Rattle.operator.specs.Laws.Promise.{ready, sheet_refused_lem, sheet_no_room, sheet_done}
-use borrow.Author.Rules.{rules}
 use Rattle.operator.proofs.operator_to_sheet.Goals as goal
 
 pub returns-then-refusal-ne0 : goal.returns-then-refusal-ne0

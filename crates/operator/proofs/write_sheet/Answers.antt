@@ -1,14 +1,13 @@
 use mathlib.Core.Path.{◌≡◌, refl, sym, ap, ◌∙◌}
-use Prim.Native.Nat.{ℕ, ◌+◌, ◌-◌, ◌≤◌}
+use Prim.Native.Nat.{ℕ, ◌+◌, ◌≤◌}
 use native.Mathlib.Omega.{arith}
 use mathlib.Core.List.{List}
-use lib.ListN.{length, get_or, take}
-use Rattle.matrix.specs.Laws.Range.{tabulate_is, Filled, filled_none, filled_more}
+use lib.ListN.{length, take}
+use Rattle.matrix.specs.Laws.Range.{tabulate_is, Filled}
 use Rattle.file.specs.File.{written}
 use Rattle.file.specs.Laws.Written.{filled_written}
 use Rattle.sheet_bytes.specs.Bytes.{shortest, sheet_bytes}
 use Rattle.sheet_bytes.specs.Laws.Bytes.{length_held}
-use borrow.Author.Rules.{rules}
 use Rattle.operator.proofs.write_sheet.Invariants.{byte}
 use Rattle.operator.proofs.write_sheet.Goals as goal
 

@@ -1,15 +1,10 @@
 -- The invariant: the bytes before n are those of the sheet.
-use mathlib.Core.Path.{◌≡◌, refl, sym, ap, ◌∙◌}
+use mathlib.Core.Path.{◌≡◌}
 use Prim.Native.Nat.{ℕ, ◌+◌, ◌-◌, ◌≤◌}
-use native.Mathlib.Omega.{arith}
 use mathlib.Core.List.{List}
-use lib.ListN.{length, get_or, take}
-use Rattle.matrix.specs.Laws.Range.{tabulate_is, Filled, filled_none, filled_more}
-use Rattle.file.specs.File.{written}
-use Rattle.file.specs.Laws.Written.{filled_written}
+use lib.ListN.{get_or, take}
+use Rattle.matrix.specs.Laws.Range.{Filled}
 use Rattle.sheet_bytes.specs.Bytes.{shortest, sheet_bytes}
-use Rattle.sheet_bytes.specs.Laws.Bytes.{length_held}
-use borrow.Author.Rules.{rules}
 use Rattle.operator.proofs.write_sheet.Given as goal
 
 abbrev pub byte : ℕ → List ℕ → List ℕ → ℕ → ℕ

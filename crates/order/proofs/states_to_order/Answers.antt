@@ -8,7 +8,6 @@ use Rattle.file.specs.declared.Answer.TheVariants.{Count, Refused}
 use Rattle.file.specs.File.{largest_exponent}
 use Rattle.order.specs.Order.{largest_spoilage, figure, order_answer}
 use Rattle.order.specs.Laws.Order.{figure_le}
-use borrow.Author.Rules.{rules}
 use Rattle.order.proofs.states_to_order.Goals as goal
 
 many : (t p : ℕ) → largest_exponent < t → Refused 14 ≡ order_answer t p

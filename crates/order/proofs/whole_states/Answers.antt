@@ -1,5 +1,4 @@
 -- Each return is one of the three cases of the definition.
-use borrow.Author.Rules.{rules}
 use Rattle.order.specs.Laws.Order.{above_half, below_half, at_half}
 use Rattle.order.proofs.whole_states.Goals as goal
 

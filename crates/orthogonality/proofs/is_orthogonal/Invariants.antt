@@ -1,19 +1,12 @@
 -- The invariant: the pairs of rows before n are as they should be, so those from n on decide.
 use mathlib.Core.Bool.{Bool}
 use mathlib.Core.List.{List}
-use mathlib.Core.Path.{◌≡◌, refl, sym, ap, ◌∙◌}
+use mathlib.Core.Path.{◌≡◌}
 use Prim.Native.Nat.{ℕ, ◌-◌, ◌/◌, ◌%◌, ◌^◌, ◌≤◌}
-use native.Mathlib.Omega.{arith}
-use borrow.Author.Rules.{rules}
-use borrow.Author.Tests.{not-true, not-false}
 use lib.IntN.{ℤ, pos}
-use mir.Syntax.{w64}
-use mir.Val.{to_z}
 use Rattle.matrix.specs.Range.{every_from}
 use Rattle.matrix.specs.Matrix.{entry}
 use Rattle.matrix.specs.Array.{orthogonal_at, is_orthogonal}
-use Rattle.matrix.specs.Laws.Range.{every_next, every_stop}
-use Rattle.matrix.specs.Laws.Machine.{kept}
 use Rattle.orthogonality.proofs.is_orthogonal.Given as goal
 
 abbrev pub test_at : ℕ → List ℤ → ℕ → Bool

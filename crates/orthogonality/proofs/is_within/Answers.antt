@@ -1,12 +1,10 @@
 use mathlib.Core.Path.{◌≡◌, refl, sym, ◌∙◌}
-use Prim.Native.Nat.{ℕ, ◌-◌, ◌/◌, ◌%◌, ◌^◌, ◌≤◌, ◌<◌}
+use Prim.Native.Nat.{ℕ, ◌-◌, ◌/◌, ◌%◌, ◌^◌, ◌<◌}
 use native.Mathlib.Omega.{arith}
-use mathlib.Core.Bool.{Bool}
 use mathlib.Core.List.{List}
 use lib.IntN.{ℤ, pos, ◌*ℤ◌}
 use lib.ListN.{get_or}
 use lib.Dec.{lit<}
-use lib.Signed.{le_z}
 use mir.Syntax.{w64}
 use mir.Val.{to_z, of_z}
 use Rattle.matrix.specs.Range.{every_from}
@@ -17,8 +15,6 @@ use Rattle.matrix.specs.Laws.Range.{every_next, every_stop}
 use Rattle.matrix.specs.Laws.Array.{entry_flat}
 use Rattle.matrix.specs.Laws.Machine.{kept, Sized, fits, again, stored, mul}
 use borrow.Author.Rules.{rules}
-use Rattle.orthogonality.proofs.is_within.Reads as reads
-use Rattle.orthogonality.proofs.is_within.Lts as lts
 use Rattle.orthogonality.proofs.is_within.Invariants.{within_at, square_at}
 use Rattle.orthogonality.proofs.is_within.Goals as goal
 

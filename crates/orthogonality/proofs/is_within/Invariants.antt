@@ -1,24 +1,12 @@
-use mathlib.Core.Path.{◌≡◌, refl, sym, ◌∙◌}
-use Prim.Native.Nat.{ℕ, ◌-◌, ◌/◌, ◌%◌, ◌^◌, ◌≤◌, ◌<◌}
-use native.Mathlib.Omega.{arith}
+use mathlib.Core.Path.{◌≡◌}
+use Prim.Native.Nat.{ℕ, ◌-◌, ◌/◌, ◌%◌, ◌^◌, ◌≤◌}
 use mathlib.Core.Bool.{Bool}
 use mathlib.Core.List.{List}
 use lib.IntN.{ℤ, pos, ◌*ℤ◌}
-use lib.ListN.{get_or}
-use lib.Dec.{lit<}
 use lib.Signed.{le_z}
-use mir.Syntax.{w64}
-use mir.Val.{to_z, of_z}
 use Rattle.matrix.specs.Range.{every_from}
 use Rattle.matrix.specs.Matrix.{entry}
-use Rattle.matrix.specs.Array.{Bounded, is_within}
-use Rattle.matrix.specs.Laws.Integer.{above→not_le, not_above→le}
-use Rattle.matrix.specs.Laws.Range.{every_next, every_stop}
-use Rattle.matrix.specs.Laws.Array.{entry_flat}
-use Rattle.matrix.specs.Laws.Machine.{kept, Sized, fits, again, stored, mul}
-use borrow.Author.Rules.{rules}
-use Rattle.orthogonality.proofs.is_within.Reads as reads
-use Rattle.orthogonality.proofs.is_within.Lts as lts
+use Rattle.matrix.specs.Array.{is_within}
 use Rattle.orthogonality.proofs.is_within.Given as goal
 
 abbrev pub square_at : List ℤ → ℕ → ℤ

@@ -1,7 +1,6 @@
 -- Two numbers of 64 bits are equal exactly if their bits are.
 use mathlib.Core.Path.{◌≡◌, sym, ap₂, ◌∙◌}
-use borrow.Author.Rules.{rules}
-use borrow.Author.Tests.{lt-ltb, le-ltb}
+use borrow.Author.Tests.{le-ltb}
 use lib.IntN.{pos, ◌*ℤ◌, *ℤ-zero}
 use lib.Dec.{lit<}
 use Rattle.matrix.specs.Integer.{equals}

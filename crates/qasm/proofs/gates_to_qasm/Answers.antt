@@ -13,7 +13,6 @@ use Rattle.qasm.specs.Reading.{letters_of, body_of}
 use Rattle.qasm.specs.Promise.{TextPromise, size}
 use Rattle.qasm.specs.Laws.Answer.{sized, size_refused, refused, no_room, room, text_promise}
 use Rattle.qasm.specs.Laws.Writing.{length_first, letters_short, letters_long, text_of_lem, text_length}
-use borrow.Author.Rules.{rules}
 use Rattle.qasm.proofs.gates_to_qasm.Goals as goal
 
 module _ (bs old : List ℕ) (short : length bs ≤ largest_list) where

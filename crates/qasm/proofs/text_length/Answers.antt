@@ -1,6 +1,6 @@
 use mathlib.Core.Path.{◌≡◌, sym, ap, ◌∙◌}
-use mathlib.Core.List.{List, [], ◌∷◌, ◌++◌, flatten}
-use Prim.Native.Nat.{ℕ, ◌+◌, ◌*◌, ◌-◌, ◌≤◌, ◌<◌}
+use mathlib.Core.List.{List, ◌∷◌, ◌++◌, flatten}
+use Prim.Native.Nat.{ℕ, ◌+◌, ◌-◌, ◌<◌}
 use native.Mathlib.Omega.{arith}
 use lib.ListN.{length, get_or, drop, length-append}
 use lib.Seq.{drop-length}
@@ -9,12 +9,11 @@ use Rattle.letter.specs.declared.Letter.{Letter}
 use Rattle.letter.specs.declared.Letter.TheVariants.{Is, Unknown}
 use Rattle.letter.specs.Gate.{gate_of}
 use Rattle.gate.specs.Reading.{gates}
-use Rattle.file.specs.declared.Wrote.TheVariants.{Bytes, Refused}
-use Rattle.qasm.specs.Text.{first_lines, statement as line, body, text_of, first_length, longest_statement}
+use Rattle.file.specs.declared.Wrote.TheVariants.{Refused}
+use Rattle.qasm.specs.Text.{first_lines, statement as line, body, text_of, first_length}
 use Rattle.qasm.specs.Reading.{before, letters_of}
 use Rattle.qasm.specs.Promise.{size}
 use Rattle.qasm.specs.Laws.Writing.{length_first, statement_long, letters_next, letters_unknown}
-use borrow.Author.Rules.{rules}
 use Rattle.qasm.proofs.text_length.Invariants.{Going}
 use Rattle.qasm.proofs.text_length.Goals as goal
 

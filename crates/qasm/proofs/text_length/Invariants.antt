@@ -1,21 +1,12 @@
 -- The invariant: the letters from i on are gates, whose text has n bytes.
-use mathlib.Core.Path.{◌≡◌, sym, ap, ◌∙◌}
-use mathlib.Core.List.{List, [], ◌∷◌, ◌++◌, flatten}
-use Prim.Native.Nat.{ℕ, ◌+◌, ◌*◌, ◌-◌, ◌≤◌, ◌<◌}
-use native.Mathlib.Omega.{arith}
-use lib.ListN.{length, get_or, drop, length-append}
-use lib.Seq.{drop-length}
+use mathlib.Core.Path.{◌≡◌}
+use mathlib.Core.List.{List}
+use Prim.Native.Nat.{ℕ, ◌+◌, ◌*◌, ◌≤◌}
+use lib.ListN.{length, drop}
 use Rattle.letter.specs.declared.Gate.{Gate}
-use Rattle.letter.specs.declared.Letter.{Letter}
-use Rattle.letter.specs.declared.Letter.TheVariants.{Is, Unknown}
-use Rattle.letter.specs.Gate.{gate_of}
 use Rattle.gate.specs.Reading.{gates}
-use Rattle.file.specs.declared.Wrote.TheVariants.{Bytes, Refused}
-use Rattle.qasm.specs.Text.{first_lines, statement as line, body, text_of, first_length, longest_statement}
-use Rattle.qasm.specs.Reading.{before, letters_of}
-use Rattle.qasm.specs.Promise.{size}
-use Rattle.qasm.specs.Laws.Writing.{length_first, statement_long, letters_next, letters_unknown}
-use borrow.Author.Rules.{rules}
+use Rattle.qasm.specs.Text.{text_of, first_length, longest_statement}
+use Rattle.qasm.specs.Reading.{letters_of}
 use Rattle.qasm.proofs.text_length.Given as goal
 
 pub record Going (bs : List ℕ) (n i : ℕ) : Type 0 where

@@ -9,7 +9,6 @@ use Rattle.file.specs.File.{Appended}
 use Rattle.file.specs.Laws.Written.{appended_as, appended_none, appended_length, appended_append}
 use Rattle.qasm.specs.Reading.{line_of, body_of}
 use Rattle.qasm.specs.Laws.Writing.{body_next, body_room}
-use borrow.Author.Rules.{rules}
 use Rattle.qasm.proofs.write_statements.Invariants.{Going}
 use Rattle.qasm.proofs.write_statements.Goals as goal
 

@@ -1,16 +1,10 @@
 -- The invariant: the statements of the letters from i on are in the buffer.
-use mathlib.Core.Path.{◌≡◌, refl, sym, ap, ◌∙◌}
-use mathlib.Core.List.{List, ◌++◌}
-use Prim.Native.Nat.{ℕ, ◌+◌, ◌-◌, ◌≤◌, ◌<◌}
-use native.Mathlib.Omega.{arith}
-use lib.ListN.{length, get_or, drop, length-append}
-use lib.Seq.{drop-length}
-use Rattle.letter.specs.Gate.{gate_of}
+use mathlib.Core.Path.{◌≡◌}
+use mathlib.Core.List.{List}
+use Prim.Native.Nat.{ℕ, ◌≤◌}
+use lib.ListN.{length, drop}
 use Rattle.file.specs.File.{Appended}
-use Rattle.file.specs.Laws.Written.{appended_as, appended_none, appended_length, appended_append}
-use Rattle.qasm.specs.Reading.{line_of, body_of}
-use Rattle.qasm.specs.Laws.Writing.{body_next, body_room}
-use borrow.Author.Rules.{rules}
+use Rattle.qasm.specs.Reading.{body_of}
 use Rattle.qasm.proofs.write_statements.Given as goal
 
 pub record Going (bs old : List ℕ) (at : ℕ) (new : List ℕ) (next i : ℕ) : Type 0 where

@@ -1,17 +1,11 @@
-use mathlib.Core.Path.{◌≡◌, refl, sym, ap, ap₂, ◌∙◌}
-use mathlib.Core.Bool.{Bool, true, false, cond, ◌&&◌}
+use mathlib.Core.Path.{◌≡◌, refl, ap}
+use mathlib.Core.Bool.{Bool, true, false}
 use mathlib.Core.List.{List}
-use Prim.Native.Nat.{ℕ, ◌+◌, ◌-◌, ◌≤◌, ◌<◌}
-use native.Mathlib.Numerals.{add-one}
+use Prim.Native.Nat.{ℕ, ◌<◌}
 use native.Mathlib.Omega.{arith}
-use lib.Dec.{eqb}
-use lib.ListN.{length, get_or, take, drop, length-take, length-drop}
-use lib.Seq.{drop-cons, drop-length, get_or-drop}
-use borrow.Author.Tests.{eq-eqb, ne_eqb}
+use lib.ListN.{length, take, drop, length-take, length-drop}
 use Rattle.matrix.specs.Laws.Test.{same_list_lem}
 use Rattle.qasm_read.specs.Statements.{begins}
-use borrow.Author.Rules.{rules}
-use Rattle.qasm_read.proofs.after.Invariants.{Going, next, other, turn, whole, begins_next}
 use Rattle.qasm_read.proofs.after.Goals as goal
 
 too_short : (d l : List ℕ) → length d < length l → begins d l ≡ false

@@ -1,17 +1,15 @@
 -- The invariant: the bytes from i on decide.
-use mathlib.Core.Path.{◌≡◌, refl, sym, ap, ap₂, ◌∙◌}
-use mathlib.Core.Bool.{Bool, true, false, cond, ◌&&◌}
+use mathlib.Core.Path.{◌≡◌, sym, ap, ap₂, ◌∙◌}
+use mathlib.Core.Bool.{true, cond, ◌&&◌}
 use mathlib.Core.List.{List}
 use Prim.Native.Nat.{ℕ, ◌+◌, ◌-◌, ◌≤◌, ◌<◌}
 use native.Mathlib.Numerals.{add-one}
 use native.Mathlib.Omega.{arith}
 use lib.Dec.{eqb}
-use lib.ListN.{length, get_or, take, drop, length-take, length-drop}
+use lib.ListN.{length, get_or, drop, length-drop}
 use lib.Seq.{drop-cons, drop-length, get_or-drop}
 use borrow.Author.Tests.{eq-eqb, ne_eqb}
-use Rattle.matrix.specs.Laws.Test.{same_list_lem}
 use Rattle.qasm_read.specs.Statements.{begins}
-use borrow.Author.Rules.{rules}
 use Rattle.qasm_read.proofs.after.Given as goal
 
 pub begins_next : (d l : List ℕ) (i : ℕ) → i < length d → i < length l → begins (drop i d) (drop i l) ≡ (eqb (get_or d i 0) (get_or l i 0) && begins (drop (i + 1) d) (drop (i + 1) l))

@@ -16,7 +16,6 @@ use Rattle.qasm.specs.Laws.Answer.{refused, no_room, room, letters_promise}
 use Rattle.qasm_read.specs.declared.Statements.{Statements}
 use Rattle.qasm_read.specs.Statements.{begins, StatementsFrom, after_line, read_from, list_in}
 use Rattle.qasm_read.specs.Laws.Statements.{not_started, started, ended, wrong, other_line, too_many, in_limit}
-use borrow.Author.Rules.{rules}
 use Rattle.qasm_read.proofs.qasm_to_gates.Goals as goal
 
 module _ (bs : List ℕ) (first : ℕ) (e : first ≡ after_line bs 0 (flatten first_lines)) (n : first ≢ 0) where

@@ -1,7 +1,6 @@
 -- Each line that stands is that of its gate; where none does, no statement stands.
 use Rattle.letter.specs.declared.Gate.TheVariants.{H1, H2, S1, S2, Cz, Cs}
 use Rattle.qasm_read.specs.Laws.Statement.{statement_stands, reversed_stands, none}
-use borrow.Author.Rules.{rules}
 use Rattle.qasm_read.proofs.statement_at.Goals as goal
 
 pub returns-then-at-end : goal.returns-then-at-end

@@ -1,15 +1,12 @@
-use mathlib.Core.Path.{◌≡◌, refl, sym, ap, subst, ◌∙◌}
-use mathlib.Core.List.{List, [], ◌∷◌, ◌++◌, append_assoc}
-use Prim.Native.Nat.{ℕ, ◌+◌, ◌*◌, ◌-◌, ◌≤◌, ◌<◌}
+use mathlib.Core.Path.{sym, ap, subst, ◌∙◌}
+use mathlib.Core.List.{List, ◌∷◌, ◌++◌, append_assoc}
+use Prim.Native.Nat.{ℕ, ◌+◌}
 use native.Mathlib.Omega.{arith}
-use lib.ListN.{length, drop, length-append}
+use lib.ListN.{drop, length-append}
 use Rattle.letter.specs.declared.Gate.{Gate}
 use Rattle.qasm.specs.Reading.{lines, statements}
-use Rattle.qasm.specs.Text.{longest_statement}
-use Rattle.qasm_read.specs.declared.Statements.{Statements}
-use Rattle.qasm_read.specs.Statements.{StatementAt, NoStatement, LineAt, followed, StatementsFrom}
-use Rattle.qasm_read.specs.Laws.Statements.{followed_none, followed_earlier}
-use borrow.Author.Rules.{rules}
+use Rattle.qasm_read.specs.Statements.{StatementAt, LineAt, followed}
+use Rattle.qasm_read.specs.Laws.Statements.{followed_earlier}
 use Rattle.qasm_read.proofs.statements_from.Invariants.{Passed}
 use Rattle.qasm_read.proofs.statements_from.Goals as goal
 

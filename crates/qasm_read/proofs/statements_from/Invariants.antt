@@ -1,16 +1,12 @@
 -- The invariant: the bytes up to `end` are `count` statements.
-use mathlib.Core.Path.{◌≡◌, refl, sym, ap, subst, ◌∙◌}
-use mathlib.Core.List.{List, [], ◌∷◌, ◌++◌, append_assoc}
-use Prim.Native.Nat.{ℕ, ◌+◌, ◌*◌, ◌-◌, ◌≤◌, ◌<◌}
-use native.Mathlib.Omega.{arith}
-use lib.ListN.{length, drop, length-append}
+use mathlib.Core.Path.{◌≡◌}
+use mathlib.Core.List.{List, ◌++◌}
+use Prim.Native.Nat.{ℕ, ◌+◌, ◌*◌, ◌-◌, ◌≤◌}
+use lib.ListN.{length, drop}
 use Rattle.letter.specs.declared.Gate.{Gate}
 use Rattle.qasm.specs.Reading.{lines, statements}
 use Rattle.qasm.specs.Text.{longest_statement}
-use Rattle.qasm_read.specs.declared.Statements.{Statements}
-use Rattle.qasm_read.specs.Statements.{StatementAt, NoStatement, LineAt, followed, StatementsFrom}
-use Rattle.qasm_read.specs.Laws.Statements.{followed_none, followed_earlier}
-use borrow.Author.Rules.{rules}
+use Rattle.qasm_read.specs.Statements.{followed}
 use Rattle.qasm_read.proofs.statements_from.Given as goal
 
 pub record Passed (bs : List ℕ) (at count end : ℕ) : Type 0 where

@@ -1,14 +1,13 @@
 use mathlib.Core.Path.{◌≡◌, sym, subst}
 use mathlib.Core.List.{List, map}
-use Prim.Native.Nat.{ℕ, ◌-◌, ◌≤◌}
+use Prim.Native.Nat.{ℕ, ◌≤◌}
 use native.Mathlib.Omega.{arith}
 use lib.ListN.{length}
 use Rattle.file.specs.declared.Wrote.TheVariants.{Bytes}
 use Rattle.letter.specs.Gate.{letter}
 use Rattle.qasm.specs.Promise.{size}
 use Rattle.qasm_read.specs.Statements.{LineAt, read_from, list_in}
-use Rattle.qasm_read.specs.Laws.Letters.{list_in_lem, Going, start, left_more, turn, never, finished}
-use borrow.Author.Rules.{rules}
+use Rattle.qasm_read.specs.Laws.Letters.{list_in_lem, Going, start, turn, never, finished}
 use Rattle.qasm_read.proofs.write_letters.Goals as goal
 
 begun : (bs : List ℕ) (at n : ℕ) (old : List ℕ) → at ≤ length bs → Bytes n ≡ size (map letter) (read_from bs at) → Going bs (list_in (read_from bs at)) old old at n

@@ -1,15 +1,8 @@
 -- The invariant: the statements from `next` on are the first `left` letters of the list, and the others are written behind those.
-use mathlib.Core.Path.{◌≡◌, sym, subst}
-use mathlib.Core.List.{List, map}
-use Prim.Native.Nat.{ℕ, ◌-◌, ◌≤◌}
-use native.Mathlib.Omega.{arith}
+use Prim.Native.Nat.{◌-◌}
 use lib.ListN.{length}
-use Rattle.file.specs.declared.Wrote.TheVariants.{Bytes}
-use Rattle.letter.specs.Gate.{letter}
-use Rattle.qasm.specs.Promise.{size}
-use Rattle.qasm_read.specs.Statements.{LineAt, read_from, list_in}
-use Rattle.qasm_read.specs.Laws.Letters.{list_in_lem, Going, start, left_more, turn, never, finished}
-use borrow.Author.Rules.{rules}
+use Rattle.qasm_read.specs.Statements.{read_from, list_in}
+use Rattle.qasm_read.specs.Laws.Letters.{Going}
 use Rattle.qasm_read.proofs.write_letters.Given as goal
 
 abbrev pub invariant-loop-next : goal.invariant-loop-next

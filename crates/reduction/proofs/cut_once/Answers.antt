@@ -16,7 +16,6 @@ use Rattle.grouping.specs.Laws.Residue.{grouped_rows}
 use Rattle.reduction.specs.Reduction.{cut, chosen, loose_cut}
 use Rattle.reduction.specs.Result.{Cuttable}
 use Rattle.reduction.specs.Laws.Step.{one_step}
-use borrow.Author.Rules.{rules}
 use Rattle.reduction.proofs.cut_once.Goals as goal
 
 module _ (m : List ℤ) (h : Cuttable m) where

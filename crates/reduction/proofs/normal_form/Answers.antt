@@ -1,15 +1,10 @@
 -- The least form is orthogonal and reduced.
-use mathlib.Core.List.{List}
-use mathlib.Core.Path.{◌≡◌, sym, subst}
-use Prim.Native.Nat.{ℕ, ◌≤◌}
+use mathlib.Core.Path.{sym, subst}
+use Prim.Native.Nat.{◌≤◌}
 use native.Mathlib.Omega.{arith}
-use borrow.Author.Rules.{rules}
-use lib.IntN.{ℤ}
 use Rattle.matrix.specs.Operator.{Orthogonal, Reduced}
-use Rattle.matrix.specs.Array.{Least, least_form}
+use Rattle.matrix.specs.Array.{Least}
 use Rattle.matrix.specs.Laws.Array.{operator_of, least_form_lem, least_orthogonal}
-use Rattle.reduction.specs.declared.Normal.{Normal}
-use Rattle.reduction.specs.Result.{Whole, WholeOf}
 use Rattle.reduction.proofs.normal_form.Goals as goal
 
 pub reduce-requires : goal.reduce-requires

@@ -1,5 +1,5 @@
 -- Cutting commutes with a signed permutation on the right: it takes the same generators, and leaves what it left times the permutation.
-use Rattle.std.specs.Prelude.{◌≡◌, true, ℤ, pos, ◌*ℤ◌}
+use Rattle.std.specs.Prelude.{◌≡◌, true, ℤ, pos}
 use Rattle.std.proofs.Math.Path.{refl, ap, ap₂}
 use Rattle.std.proofs.Common.{sym, ◌∙◌, arith}
 use mathlib.Core.List.{List, ◌∷◌}

@@ -1,15 +1,15 @@
-use mathlib.Core.Path.{◌≡◌, refl, sym, ap, subst, ◌∙◌}
-use Prim.Native.Nat.{ℕ, ◌-◌, ◌≤◌}
+use mathlib.Core.Path.{◌≡◌, refl, sym, ap, ◌∙◌}
+use Prim.Native.Nat.{ℕ, ◌-◌}
 use native.Mathlib.Omega.{arith}
 use mathlib.Core.Bool.{Bool}
-use mathlib.Core.List.{List, [], map}
+use mathlib.Core.List.{List, map}
 use lib.ListN.{get_or}
 use Rattle.matrix.specs.Range.{first_from}
 use Rattle.matrix.specs.Laws.Range.{first_here, first_next}
 use Rattle.residue.specs.Generator.{table, fits, first_fit}
-use Rattle.residue.specs.Masks.{AreRows, mask_at, pairs_fit}
+use Rattle.residue.specs.Masks.{mask_at, pairs_fit}
 use Rattle.residue.specs.Laws.Table.{from_zero}
-use Rattle.residue.specs.Laws.Generator.{are_rows, rows_fit}
+use Rattle.residue.specs.Laws.Generator.{rows_fit}
 use borrow.Author.Rules.{rules}
 use Rattle.residue.proofs.first_fit.Goals as goal
 

@@ -1,16 +1,12 @@
 -- The invariant: every row before r has an odd entry, so those from r on decide.
-use mathlib.Core.Path.{◌≡◌, refl, sym, ap, ◌∙◌}
+use mathlib.Core.Path.{◌≡◌}
 use mathlib.Core.Bool.{Bool}
 use mathlib.Core.List.{List}
 use Prim.Native.Nat.{ℕ, ◌-◌, ◌≤◌}
-use native.Mathlib.Omega.{arith}
 use lib.Count.{ones}
 use lib.Dec.{eqb, ltb}
 use Rattle.matrix.specs.Range.{first_from}
-use Rattle.matrix.specs.Laws.Range.{first_here, first_next}
 use Rattle.residue.specs.Masks.{mask_at, has_even_row}
-use borrow.Author.Rules.{rules}
-use borrow.Author.Tests.{eq-eqb, ne_eqb, lt-ltb}
 use Rattle.residue.proofs.has_even_row.Given as goal
 
 -- whether row r has no odd entry

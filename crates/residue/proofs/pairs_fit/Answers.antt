@@ -1,14 +1,9 @@
-use mathlib.Core.Path.{◌≡◌, refl, sym, ◌∙◌}
-use Prim.Native.Nat.{ℕ, ◌+◌, ◌*◌, ◌-◌, ◌≤◌}
+use mathlib.Core.Path.{◌≡◌, sym, ◌∙◌}
+use Prim.Native.Nat.{◌-◌}
 use native.Mathlib.Omega.{arith}
-use mathlib.Core.Bool.{Bool}
-use mathlib.Core.List.{List}
-use lib.Dec.{eqb}
-use lib.ListN.{get_or}
 use borrow.Author.Tests.{eq-eqb, ne_eqb}
 use Rattle.matrix.specs.Range.{every_from}
 use Rattle.matrix.specs.Laws.Range.{every_next, every_stop}
-use Rattle.residue.specs.Masks.{mask_at, pairs_fit}
 use borrow.Author.Rules.{rules}
 use Rattle.residue.proofs.pairs_fit.Invariants.{pair_fits}
 use Rattle.residue.proofs.pairs_fit.Goals as goal

@@ -1,16 +1,12 @@
 -- The invariant: the pairs before p fit, so those from p on decide.
-use mathlib.Core.Path.{◌≡◌, refl, sym, ◌∙◌}
+use mathlib.Core.Path.{◌≡◌}
 use Prim.Native.Nat.{ℕ, ◌+◌, ◌*◌, ◌-◌, ◌≤◌}
-use native.Mathlib.Omega.{arith}
 use mathlib.Core.Bool.{Bool}
 use mathlib.Core.List.{List}
 use lib.Dec.{eqb}
 use lib.ListN.{get_or}
-use borrow.Author.Tests.{eq-eqb, ne_eqb}
 use Rattle.matrix.specs.Range.{every_from}
-use Rattle.matrix.specs.Laws.Range.{every_next, every_stop}
 use Rattle.residue.specs.Masks.{mask_at, pairs_fit}
-use borrow.Author.Rules.{rules}
 use Rattle.residue.proofs.pairs_fit.Given as goal
 
 abbrev pub pair_fits : List ℕ → List ℕ → ℕ → Bool

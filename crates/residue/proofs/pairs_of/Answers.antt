@@ -1,7 +1,6 @@
 -- The constant is the table of document 01 with rows counted from 0.
 use Rattle.residue.specs.Generator.{table}
 use Rattle.residue.specs.Laws.Table.{from_zero}
-use borrow.Author.Rules.{rules}
 use Rattle.residue.proofs.pairs_of.Goals as goal
 
 pub returns : goal.returns

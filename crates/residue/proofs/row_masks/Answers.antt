@@ -1,10 +1,6 @@
 use mathlib.Core.Path.{◌≡◌, refl}
-use Prim.Native.Nat.{◌-◌, ◌≤◌}
 use native.Mathlib.Omega.{arith}
-use Rattle.matrix.specs.Matrix.{entry}
-use Rattle.matrix.specs.Array.{row_mask}
-use Rattle.matrix.specs.Laws.Range.{Filled, filled_none, filled_more, filled_all}
-use borrow.Author.Rules.{rules}
+use Rattle.matrix.specs.Laws.Range.{filled_all}
 use Rattle.residue.proofs.row_masks.Goals as goal
 
 pub returns : goal.returns

@@ -1,11 +1,8 @@
 -- The invariant: the masks before r are those of the rows.
-use mathlib.Core.Path.{◌≡◌, refl}
 use Prim.Native.Nat.{◌-◌, ◌≤◌}
-use native.Mathlib.Omega.{arith}
 use Rattle.matrix.specs.Matrix.{entry}
 use Rattle.matrix.specs.Array.{row_mask}
-use Rattle.matrix.specs.Laws.Range.{Filled, filled_none, filled_more, filled_all}
-use borrow.Author.Rules.{rules}
+use Rattle.matrix.specs.Laws.Range.{Filled}
 use Rattle.residue.proofs.row_masks.Given as goal
 
 abbrev pub invariant-loop-r : goal.invariant-loop-r

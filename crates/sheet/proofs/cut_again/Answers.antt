@@ -22,7 +22,6 @@ use Rattle.reduction.specs.Laws.NormalForm.{cutting}
 use Rattle.file.specs.declared.Read.{Read}
 use Rattle.sheet_bytes.specs.Bytes.{sheet_bytes, sheet}
 use Rattle.sheet.specs.Promise.{CutAgain}
-use borrow.Author.Rules.{rules}
 use borrow.Author.Tests.{not-true, not-false}
 use Rattle.sheet.proofs.cut_again.Goals as goal
 

@@ -1,17 +1,14 @@
 use mathlib.Core.Path.{◌≡◌, refl, sym, ap, ◌∙◌, subst}
-use Prim.Native.Nat.{ℕ, ◌+◌, ◌-◌, ◌≤◌, ◌<◌}
-use native.Mathlib.Decide.{ℕ_discrete}
+use Prim.Native.Nat.{ℕ, ◌<◌}
 use native.Mathlib.Omega.{arith}
 use mathlib.Core.Bool.{Bool, true, false}
 use mathlib.Core.Logic.{◌≢◌}
 use mathlib.Core.List.{List}
-use lib.ListN.{length, get_or, take}
+use lib.ListN.{length, get_or}
 use lib.Seq.{ext_get_or}
 use Rattle.matrix.specs.List.{same_list}
 use Rattle.matrix.specs.Laws.Test.{same_list_lem, same_list_refl}
-use Rattle.sheet_bytes.specs.Bytes.{shortest, sheet_bytes}
 use Rattle.sheet_bytes.specs.Laws.Bytes.{length_held}
-use borrow.Author.Rules.{rules}
 use Rattle.sheet.proofs.is_sheet.Invariants.{sheet_of_lem}
 use Rattle.sheet.proofs.is_sheet.Goals as goal
 

@@ -1,18 +1,9 @@
 -- The invariant: the bytes before n are those of the sheet.
-use mathlib.Core.Path.{◌≡◌, refl, sym, ap, ◌∙◌, subst}
+use mathlib.Core.Path.{◌≡◌}
 use Prim.Native.Nat.{ℕ, ◌+◌, ◌-◌, ◌≤◌, ◌<◌}
-use native.Mathlib.Decide.{ℕ_discrete}
-use native.Mathlib.Omega.{arith}
-use mathlib.Core.Bool.{Bool, true, false}
-use mathlib.Core.Logic.{◌≢◌}
 use mathlib.Core.List.{List}
 use lib.ListN.{length, get_or, take}
-use lib.Seq.{ext_get_or}
-use Rattle.matrix.specs.List.{same_list}
-use Rattle.matrix.specs.Laws.Test.{same_list_lem, same_list_refl}
 use Rattle.sheet_bytes.specs.Bytes.{shortest, sheet_bytes}
-use Rattle.sheet_bytes.specs.Laws.Bytes.{length_held}
-use borrow.Author.Rules.{rules}
 use Rattle.sheet.proofs.is_sheet.Given as goal
 
 abbrev pub sheet_of_lem : ℕ → List ℕ → List ℕ → List ℕ

@@ -1,17 +1,16 @@
 use mathlib.Core.Path.{◌≡◌, refl, sym, ap, ◌∙◌}
-use Prim.Native.Nat.{ℕ, suc, ◌+◌, ◌-◌, ◌≤◌, ◌<◌}
+use Prim.Native.Nat.{ℕ, suc, ◌+◌, ◌≤◌, ◌<◌}
 use native.Mathlib.Omega.{arith}
 use mathlib.Core.List.{List}
 use lib.IntN.{ℤ}
 use lib.ListN.{length, get_or, take, drop}
 use lib.Seq.{length-take-le, get_or-take, drop-cons, drop-length}
 use Rattle.matrix.specs.Matrix.{Matrix, Same, δ, entry, listed, product}
-use Rattle.matrix.specs.Operator.{operator, times_operator, identity, Orthogonal}
+use Rattle.matrix.specs.Operator.{operator, times_operator, identity}
 use Rattle.matrix.specs.Laws.Matrix.{product_cong, product_assoc, product_id_l}
 use Rattle.matrix.specs.Laws.Operator.{times_orthogonal, same_orthogonal, same_operator_of}
 use Rattle.matrix.specs.Laws.Inverse.{identity_orthogonal}
 use Rattle.matrix.specs.Laws.Array.{entry_listed, listed_cong, orthogonal_bounded}
-use Rattle.clifford.specs.Columns.{columns_matrix}
 use Rattle.residue.specs.Generator.{generator}
 use Rattle.residue.specs.Laws.Generator.{generator_orthogonal}
 use Rattle.reduction.specs.Reduction.{normal_form}

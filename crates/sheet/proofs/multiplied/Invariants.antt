@@ -1,23 +1,12 @@
 -- The invariant: the product of the first n generators is in hand, and times the rest it is the whole.
-use mathlib.Core.Path.{◌≡◌, refl, sym, ap, ◌∙◌}
-use Prim.Native.Nat.{ℕ, suc, ◌+◌, ◌-◌, ◌≤◌, ◌<◌}
-use native.Mathlib.Omega.{arith}
+use Prim.Native.Nat.{ℕ, ◌-◌, ◌≤◌}
 use mathlib.Core.List.{List}
 use lib.IntN.{ℤ}
-use lib.ListN.{length, get_or, take, drop}
-use lib.Seq.{length-take-le, get_or-take, drop-cons, drop-length}
-use Rattle.matrix.specs.Matrix.{Matrix, Same, δ, entry, listed, product}
-use Rattle.matrix.specs.Operator.{operator, times_operator, identity, Orthogonal}
-use Rattle.matrix.specs.Laws.Matrix.{product_cong, product_assoc, product_id_l}
-use Rattle.matrix.specs.Laws.Operator.{times_orthogonal, same_orthogonal, same_operator_of}
-use Rattle.matrix.specs.Laws.Inverse.{identity_orthogonal}
-use Rattle.matrix.specs.Laws.Array.{entry_listed, listed_cong, orthogonal_bounded}
+use lib.ListN.{take, drop}
+use Rattle.matrix.specs.Matrix.{Matrix, Same, entry, product}
+use Rattle.matrix.specs.Operator.{operator, Orthogonal}
 use Rattle.clifford.specs.Columns.{columns_matrix}
-use Rattle.residue.specs.Generator.{generator}
-use Rattle.residue.specs.Laws.Generator.{generator_orthogonal}
 use Rattle.reduction.specs.Reduction.{normal_form}
-use Rattle.sheet.specs.Laws.Sheet.{numbers_sound}
-use borrow.Author.Rules.{rules}
 use Rattle.sheet.proofs.multiplied.Given as goal
 
 -- m is the product of the first n of the generators gs, C being what stands behind them

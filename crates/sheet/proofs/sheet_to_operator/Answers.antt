@@ -1,7 +1,6 @@
 -- Each way out is a case of the promise.
 use native.Mathlib.Omega.{arith}
 use Rattle.sheet.specs.Laws.Promise.{turned_away, no_room, done, fits}
-use borrow.Author.Rules.{rules}
 use Rattle.sheet.proofs.sheet_to_operator.Goals as goal
 
 pub returns-then-refusal-ne0 : goal.returns-then-refusal-ne0

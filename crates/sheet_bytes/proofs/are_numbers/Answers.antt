@@ -1,15 +1,12 @@
 use mathlib.Core.Path.{◌≡◌, sym, ◌∙◌}
 use Prim.Native.Nat.{ℕ, ◌-◌, ◌≤◌, ◌<◌}
 use native.Mathlib.Omega.{arith}
-use mathlib.Core.Bool.{Bool, true, false}
-use mathlib.Core.List.{List}
-use lib.ListN.{get_or}
+use mathlib.Core.Bool.{true, false}
 use borrow.Author.Tests.{le-leb, lt-leb}
-use Rattle.matrix.specs.Range.{every_from, every}
+use Rattle.matrix.specs.Range.{every_from}
 use Rattle.matrix.specs.Laws.Range.{every_next, every_stop}
 use Rattle.sheet_bytes.specs.Sheet.{is_number}
 use borrow.Author.Rules.{rules}
-use Rattle.sheet_bytes.proofs.are_numbers.Invariants.{number_at}
 use Rattle.sheet_bytes.proofs.are_numbers.Goals as goal
 
 below : (g : ℕ) → g < 1 → is_number g ≡ false

@@ -1,15 +1,11 @@
 -- The invariant: the bytes before n pass, so that the rest decides.
-use mathlib.Core.Path.{◌≡◌, sym, ◌∙◌}
-use Prim.Native.Nat.{ℕ, ◌-◌, ◌≤◌, ◌<◌}
-use native.Mathlib.Omega.{arith}
-use mathlib.Core.Bool.{Bool, true, false}
+use mathlib.Core.Path.{◌≡◌}
+use Prim.Native.Nat.{ℕ, ◌-◌, ◌≤◌}
+use mathlib.Core.Bool.{Bool}
 use mathlib.Core.List.{List}
 use lib.ListN.{get_or}
-use borrow.Author.Tests.{le-leb, lt-leb}
 use Rattle.matrix.specs.Range.{every_from, every}
-use Rattle.matrix.specs.Laws.Range.{every_next, every_stop}
 use Rattle.sheet_bytes.specs.Sheet.{is_number}
-use borrow.Author.Rules.{rules}
 use Rattle.sheet_bytes.proofs.are_numbers.Given as goal
 
 abbrev pub number_at : List ℕ → ℕ → Bool

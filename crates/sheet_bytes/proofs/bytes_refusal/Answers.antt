@@ -2,9 +2,8 @@
 use mathlib.Core.Path.{◌≡◌, sym, ap, ◌∙◌}
 use Prim.Native.Nat.{◌-◌}
 use lib.ListN.{length, get_or}
-use borrow.Author.Rules.{rules}
 use borrow.Author.Rules.{part_to_end}
-use borrow.Author.Tests.{lt-ltb, le-ltb, not-true, not-false}
+use borrow.Author.Tests.{le-ltb, not-true, not-false}
 use Rattle.matrix.specs.Range.{every}
 use Rattle.clifford.specs.Laws.Signed.{signed_none}
 use Rattle.sheet_bytes.specs.Bytes.{shortest, longest, sheet_columns}

@@ -2,12 +2,11 @@ use mathlib.Core.Path.{◌≡◌, refl, sym, ap, ◌∙◌}
 use Prim.Native.Nat.{ℕ, ◌+◌, ◌-◌, ◌≤◌}
 use native.Mathlib.Omega.{arith}
 use mathlib.Core.List.{List}
-use lib.ListN.{length, get_or, take, drop, length-drop, length-map}
+use lib.ListN.{length, take, drop, length-drop, length-map}
 use lib.Seq.{get_or-drop, get_or-take, length-take-le}
-use Rattle.matrix.specs.Laws.Range.{tabulate_is, Filled, filled_none, filled_more, filled_all}
+use Rattle.matrix.specs.Laws.Range.{tabulate_is, Filled, filled_all}
 use Rattle.clifford.specs.Columns.{signed_byte, signed}
 use Rattle.clifford.specs.Laws.Signed.{signed_at}
-use borrow.Author.Rules.{rules}
 use Rattle.sheet_bytes.proofs.columns_from.Invariants.{byte}
 use Rattle.sheet_bytes.proofs.columns_from.Goals as goal
 

@@ -1,8 +1,7 @@
 -- Column bytes of different rows are a permutation's; the length of six bytes is no question.
 use mathlib.Core.Path.{◌≡◌, sym, ◌∙◌}
-use mathlib.Core.Bool.{Bool, true, false}
+use mathlib.Core.Bool.{true, false}
 use lib.ListN.{length}
-use borrow.Author.Rules.{rules}
 use borrow.Author.Tests.{eq-eqb}
 use Rattle.clifford.specs.Columns.{are_permutation}
 use native.Mathlib.Omega.{arith}

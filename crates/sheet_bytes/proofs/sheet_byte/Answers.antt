@@ -2,10 +2,9 @@
 use mathlib.Core.Path.{◌≡◌, sym, ap, ◌∙◌}
 use Prim.Native.Nat.{ℕ, ◌+◌, ◌-◌, ◌≤◌, ◌<◌}
 use native.Mathlib.Omega.{arith}
-use mathlib.Core.List.{List, [], ◌∷◌, ◌++◌}
+use mathlib.Core.List.{List, ◌∷◌, ◌++◌}
 use lib.ListN.{length, get_or, take, get_or-append}
 use lib.Seq.{length-take-le, get_or-take, get_or-drop, get_or-append-add, get_or_at}
-use borrow.Author.Rules.{rules}
 use Rattle.clifford.specs.Columns.{signed_byte}
 use Rattle.clifford.specs.Laws.Signed.{signed_at}
 use Rattle.sheet_bytes.specs.Bytes.{count_byte, sign_byte, written_columns, sheet_bytes}

@@ -1,13 +1,9 @@
 -- The invariant: n is the number of inversions among the columns from c on.
-use mathlib.Core.Path.{◌≡◌, sym, ap, ap₂, ◌∙◌}
-use Prim.Native.Nat.{ℕ, ◌+◌, ◌*◌, ◌-◌, ◌≤◌, ◌<◌}
-use native.Mathlib.Omega.{arith}
-use native.Mathlib.Nat.{le_of_eq}
-use mathlib.Core.List.{List, map}
-use lib.ListN.{length, get_or, drop, drop_of_length-le}
-use Rattle.matrix.specs.Laws.Range.{drop_down}
-use Rattle.clifford.specs.Columns.{row_of, below, inversions}
-use borrow.Author.Rules.{rules}
+use mathlib.Core.Path.{◌≡◌}
+use Prim.Native.Nat.{◌*◌, ◌-◌, ◌≤◌}
+use mathlib.Core.List.{map}
+use lib.ListN.{drop}
+use Rattle.clifford.specs.Columns.{row_of, inversions}
 use Rattle.sign.proofs.inversions_of.Given as goal
 
 abbrev pub invariant-loop-c : goal.invariant-loop-c

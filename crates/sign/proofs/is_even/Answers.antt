@@ -1,7 +1,6 @@
 -- The two counts are the definition's.
 use mathlib.Core.Path.{ap₂}
 use Prim.Native.Nat.{◌+◌, ◌%◌}
-use borrow.Author.Rules.{rules}
 use lib.Dec.{eqb}
 use Rattle.clifford.specs.Columns.{is_even}
 use Rattle.sign.proofs.is_even.Goals as goal

@@ -1,16 +1,9 @@
 -- The invariant: n is the number of columns from d on whose row is below that of column c.
-use mathlib.Core.Path.{◌≡◌, sym, ap, ◌∙◌, subst}
-use Prim.Native.Nat.{ℕ, ◌+◌, ◌-◌, ◌≤◌, ◌<◌}
-use native.Mathlib.Omega.{arith}
-use native.Mathlib.Nat.{le_of_eq}
-use mathlib.Core.Bool.{cond}
-use mathlib.Core.List.{List, map}
-use lib.ListN.{length, drop, get_or, drop_of_length-le}
-use lib.Dec.{ltb}
-use borrow.Author.Tests.{lt-ltb, le-ltb}
-use Rattle.matrix.specs.Laws.Range.{drop_down}
+use mathlib.Core.Path.{◌≡◌}
+use Prim.Native.Nat.{◌-◌, ◌≤◌, ◌<◌}
+use mathlib.Core.List.{map}
+use lib.ListN.{drop, get_or}
 use Rattle.clifford.specs.Columns.{row_of, below}
-use borrow.Author.Rules.{rules}
 use Rattle.sign.proofs.rows_below.Given as goal
 
 abbrev pub invariant-loop-d : goal.invariant-loop-d

@@ -3,7 +3,6 @@ use mathlib.Core.List.{List}
 use Prim.Native.Nat.{ℕ, ◌-◌, ◌^◌}
 use native.Mathlib.Omega.{arith}
 use lib.IntN.{ℤ}
-use borrow.Author.Rules.{rules}
 use Rattle.gaussian.specs.declared.Gaussian.{Gaussian}
 use Rattle.gaussian.specs.Gaussian.{Within, Matrix, ◌⊕◌, ◌⊗◌, conj, product}
 use Rattle.gaussian.specs.Laws.Size.{within_more, within_conj, within-⊕, within-⊗}

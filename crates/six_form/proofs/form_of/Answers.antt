@@ -5,7 +5,6 @@ use mathlib.Core.List.{List}
 use Prim.Native.Nat.{ℕ, ◌+◌, ◌*◌}
 use native.Mathlib.Omega.{arith}
 use lib.IntN.{ℤ}
-use borrow.Author.Rules.{rules}
 use Rattle.matrix.specs.Laws.Array.{length_listed}
 use Rattle.unitary.specs.Unitary.{Unitary, quotient, matrix_of}
 use Rattle.six_form.specs.declared.Parts.{Parts}

@@ -1,17 +1,12 @@
 -- The invariant: the numbers before i are 0, so those from i on decide.
 use mathlib.Core.Bool.{Bool}
 use mathlib.Core.List.{List}
-use mathlib.Core.Path.{◌≡◌, refl, sym, ap, ◌∙◌}
+use mathlib.Core.Path.{◌≡◌}
 use Prim.Native.Nat.{ℕ, ◌-◌, ◌≤◌}
-use native.Mathlib.Omega.{arith}
 use lib.IntN.{ℤ, pos}
 use lib.ListN.{get_or}
-use borrow.Author.Rules.{rules}
-use borrow.Author.Tests.{not-true, not-false}
 use Rattle.matrix.specs.Range.{every_from}
 use Rattle.matrix.specs.Integer.{equals}
-use Rattle.matrix.specs.Laws.Range.{every_next, every_stop}
-use Rattle.matrix.specs.Laws.Machine.{kept}
 use Rattle.six_form.specs.Places.{is_zero}
 use Rattle.six_form.proofs.is_zero.Given as goal
 

@@ -1,11 +1,9 @@
 use mathlib.Core.Path.{◌≡◌, sym, ap₂, subst, ◌∙◌}
 use mathlib.Core.List.{List}
 use Prim.Native.Nat.{ℕ, ◌^◌}
-use native.Mathlib.Omega.{arith}
 use lib.IntN.{ℤ}
-use borrow.Author.Rules.{rules}
 use Rattle.gaussian.specs.Gaussian.{Within, ◌⊖◌, ◌⊗◌}
-use Rattle.gaussian.specs.Laws.Size.{within_more, within-⊖}
+use Rattle.gaussian.specs.Laws.Size.{within-⊖}
 use Rattle.unitary.specs.Unitary.{matrix_of}
 use Rattle.unitary.specs.Form.{row_at, column_at, compound}
 use Rattle.six_form.proofs.minor.Goals as goal

@@ -1,16 +1,7 @@
-use mathlib.Core.Path.{◌≡◌, refl, ap, ◌∙◌}
-use mathlib.Core.List.{List}
-use Prim.Native.Nat.{ℕ, ◌-◌, ◌/◌, ◌%◌, ◌≤◌}
+use mathlib.Core.Path.{◌≡◌, refl}
 use native.Mathlib.Omega.{arith}
-use lib.Dec.{lit<}
-use lib.IntN.{ℤ, pos}
-use borrow.Author.Rules.{rules}
 use Rattle.matrix.specs.Matrix.{listed}
-use Rattle.matrix.specs.Laws.Range.{Filled, filled_none, filled_more, filled_all}
-use Rattle.matrix.specs.Laws.Machine.{stored}
-use Rattle.unitary.specs.Unitary.{matrix_of}
-use Rattle.unitary.specs.Form.{six_form}
-use Rattle.six_form.proofs.parts_of.Invariants.{re_at, im_at}
+use Rattle.matrix.specs.Laws.Range.{filled_all}
 use Rattle.six_form.proofs.parts_of.Goals as goal
 
 pub returns : goal.returns

@@ -1,14 +1,8 @@
 -- The invariant: the parts before i are those of the form.
-use mathlib.Core.Path.{◌≡◌, refl, ap, ◌∙◌}
 use mathlib.Core.List.{List}
 use Prim.Native.Nat.{ℕ, ◌-◌, ◌/◌, ◌%◌, ◌≤◌}
-use native.Mathlib.Omega.{arith}
-use lib.Dec.{lit<}
 use lib.IntN.{ℤ, pos}
-use borrow.Author.Rules.{rules}
-use Rattle.matrix.specs.Matrix.{listed}
-use Rattle.matrix.specs.Laws.Range.{Filled, filled_none, filled_more, filled_all}
-use Rattle.matrix.specs.Laws.Machine.{stored}
+use Rattle.matrix.specs.Laws.Range.{Filled}
 use Rattle.unitary.specs.Unitary.{matrix_of}
 use Rattle.unitary.specs.Form.{six_form}
 use Rattle.six_form.proofs.parts_of.Given as goal

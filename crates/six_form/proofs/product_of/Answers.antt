@@ -1,9 +1,7 @@
 use mathlib.Core.Path.{sym, ap₂, subst, ◌∙◌}
 use Prim.Native.Nat.{◌^◌}
-use native.Mathlib.Omega.{arith}
-use borrow.Author.Rules.{rules}
 use Rattle.gaussian.specs.Gaussian.{Within, ◌⊗◌}
-use Rattle.gaussian.specs.Laws.Size.{within_more, within-⊗}
+use Rattle.gaussian.specs.Laws.Size.{within-⊗}
 use Rattle.six_form.proofs.product_of.Goals as goal
 
 pub returns : goal.returns

@@ -1,12 +1,12 @@
 use mathlib.Core.Path.{◌≡◌, sym, ap, subst, ◌∙◌}
 use mathlib.Core.List.{List}
-use Prim.Native.Nat.{ℕ, ◌+◌, ◌-◌, ◌≤◌, ◌<◌}
+use Prim.Native.Nat.{ℕ, ◌+◌, ◌≤◌, ◌<◌}
 use native.Mathlib.Numerals.{add-one}
 use native.Mathlib.Omega.{arith}
 use lib.ListN.{length, get_or, take, set, length-set}
-use lib.Seq.{take-suc, take-length, length-take-le}
+use lib.Seq.{take-suc, length-take-le}
 use Rattle.file.specs.File.{Appended}
-use Rattle.file.specs.Laws.Written.{appended_as, appended_none, appended_one, appended_append}
+use Rattle.file.specs.Laws.Written.{appended_as, appended_one, appended_append}
 use borrow.Author.Rules.{rules}
 use Rattle.text.proofs.write_bytes.Goals as goal
 

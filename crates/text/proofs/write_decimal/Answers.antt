@@ -4,7 +4,6 @@ use native.Mathlib.Omega.{arith}
 use lib.ListN.{length}
 use Rattle.file.specs.Laws.Written.{appended_as}
 use Rattle.text.specs.Laws.Text.{decimal_one, decimal_two, decimal_three}
-use borrow.Author.Rules.{rules}
 use Rattle.text.proofs.write_decimal.Goals as goal
 
 pub write_bytes-requires : goal.write_bytes-requires

@@ -1,10 +1,9 @@
 -- The word, the numbers and the line feed, one after the other.
 use native.Mathlib.Omega.{arith}
 use lib.ListN.{length-append}
-use Rattle.file.specs.Laws.Written.{appended_length, appended_append}
+use Rattle.file.specs.Laws.Written.{appended_append}
 use Rattle.text.specs.Text.{spaced}
 use Rattle.text.specs.Laws.Text.{line_parts}
-use borrow.Author.Rules.{rules}
 use Rattle.text.proofs.write_line.Goals as goal
 
 pub returns : goal.returns

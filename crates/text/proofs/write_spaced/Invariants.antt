@@ -1,15 +1,9 @@
 -- The invariant: the first i numbers are in the buffer.
-use mathlib.Core.Path.{◌≡◌, refl, ap, ◌∙◌}
-use mathlib.Core.List.{List, []}
-use Prim.Native.Nat.{ℕ, ◌-◌, ◌≤◌}
-use native.Mathlib.Omega.{arith}
+use mathlib.Core.Path.{◌≡◌}
+use Prim.Native.Nat.{◌-◌, ◌≤◌}
 use lib.ListN.{length, take}
-use lib.Seq.{take-length}
 use Rattle.file.specs.File.{Appended}
-use Rattle.file.specs.Laws.Written.{appended_as, appended_none, appended_length, appended_append}
 use Rattle.text.specs.Text.{spaced}
-use Rattle.text.specs.Laws.Text.{spaced_next, spaced_room}
-use borrow.Author.Rules.{rules}
 use Rattle.text.proofs.write_spaced.Given as goal
 
 abbrev pub invariant-loop-i : goal.invariant-loop-i

@@ -1,11 +1,7 @@
-use mathlib.Core.Path.{◌≡◌, refl, ◌∙◌}
-use Prim.Native.Nat.{◌-◌, ◌/◌, ◌%◌, ◌≤◌}
+use mathlib.Core.Path.{◌≡◌, refl}
 use native.Mathlib.Omega.{arith}
-use lib.IntN.{pos}
-use Rattle.matrix.specs.Matrix.{δ, listed}
-use Rattle.matrix.specs.Laws.Range.{Filled, filled_none, filled_more, filled_all}
-use Rattle.matrix.specs.Laws.Machine.{kept}
-use borrow.Author.Rules.{rules}
+use Rattle.matrix.specs.Matrix.{listed}
+use Rattle.matrix.specs.Laws.Range.{filled_all}
 use Rattle.times.proofs.identity.Goals as goal
 
 pub returns : goal.returns

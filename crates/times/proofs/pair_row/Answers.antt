@@ -1,15 +1,8 @@
 use mathlib.Core.Path.{◌∙◌}
-use Prim.Native.Nat.{ℕ, ◌-◌, ◌≤◌}
 use native.Mathlib.Omega.{arith}
-use mathlib.Core.List.{List}
-use lib.IntN.{ℤ}
-use lib.ListN.{get_or}
-use Rattle.matrix.specs.Matrix.{entry}
-use Rattle.matrix.specs.Laws.Rows.{RowDone, row_none, row_more, row_all}
+use Rattle.matrix.specs.Laws.Rows.{row_more, row_all}
 use Rattle.matrix.specs.Laws.Machine.{kept}
-use Rattle.times.specs.Times.{pair_entry}
 use borrow.Author.Rules.{rules}
-use Rattle.times.proofs.pair_row.Invariants.{pair_at}
 use Rattle.times.proofs.pair_row.Goals as goal
 
 pub loop-c-preserved : goal.loop-c-preserved

@@ -8,7 +8,6 @@ use Rattle.residue.specs.Generator.{pair_rows, low, high}
 use Rattle.residue.specs.Laws.Table.{row_at_lem}
 use Rattle.residue.specs.Laws.Generator.{are_rows}
 use Rattle.times.specs.Times.{paired, partners}
-use borrow.Author.Rules.{rules}
 use Rattle.times.proofs.partners_of.Goals as goal
 
 -- where the code has the six rows ps

@@ -1,16 +1,9 @@
 use mathlib.Core.Path.{◌∙◌}
-use Prim.Native.Nat.{ℕ, ◌-◌, ◌≤◌}
 use native.Mathlib.Omega.{arith}
-use mathlib.Core.List.{List}
-use lib.IntN.{ℤ}
-use lib.ListN.{get_or}
-use Rattle.matrix.specs.Matrix.{entry}
-use Rattle.matrix.specs.Laws.Rows.{RowDone, row_none, row_more, row_all}
+use Rattle.matrix.specs.Laws.Rows.{row_more, row_all}
 use Rattle.matrix.specs.Laws.Machine.{kept}
 use Rattle.clifford.specs.Laws.Columns.{permutation_sound}
-use Rattle.times.specs.Times.{signed_entry}
 use borrow.Author.Rules.{rules}
-use Rattle.times.proofs.signed_row.Invariants.{signed_at}
 use Rattle.times.proofs.signed_row.Goals as goal
 
 pub signed_entry-requires : goal.signed_entry-requires

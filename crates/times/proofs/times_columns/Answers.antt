@@ -1,17 +1,10 @@
-use mathlib.Core.Path.{refl, sym, ◌∙◌}
-use Prim.Native.Nat.{ℕ, ◌-◌, ◌≤◌}
+use mathlib.Core.Path.{sym, ◌∙◌}
 use native.Mathlib.Omega.{arith}
-use mathlib.Core.List.{List}
-use lib.IntN.{ℤ}
-use lib.ListN.{get_or}
-use Rattle.matrix.specs.Matrix.{Matrix, entry}
-use Rattle.matrix.specs.Laws.Rows.{RowsDone, rows_none, rows_more, rows_all}
+use Rattle.matrix.specs.Matrix.{entry}
+use Rattle.matrix.specs.Laws.Rows.{rows_more, rows_all}
 use Rattle.matrix.specs.Laws.Array.{listed_cong}
 use Rattle.clifford.specs.Laws.Columns.{permutation_sound}
-use Rattle.times.specs.Times.{signed_entry}
 use Rattle.times.specs.Laws.Times.{times_columns_lem}
-use borrow.Author.Rules.{rules}
-use Rattle.times.proofs.times_columns.Invariants.{signed_matrix_lem}
 use Rattle.times.proofs.times_columns.Goals as goal
 
 pub loop-r-preserved : goal.loop-r-preserved

@@ -1,17 +1,11 @@
 -- The invariant: the rows before r are those of the product.
-use mathlib.Core.Path.{refl, sym, ◌∙◌}
 use Prim.Native.Nat.{ℕ, ◌-◌, ◌≤◌}
-use native.Mathlib.Omega.{arith}
 use mathlib.Core.List.{List}
 use lib.IntN.{ℤ}
 use lib.ListN.{get_or}
 use Rattle.matrix.specs.Matrix.{Matrix, entry}
-use Rattle.matrix.specs.Laws.Rows.{RowsDone, rows_none, rows_more, rows_all}
-use Rattle.matrix.specs.Laws.Array.{listed_cong}
-use Rattle.clifford.specs.Laws.Columns.{permutation_sound}
+use Rattle.matrix.specs.Laws.Rows.{RowsDone}
 use Rattle.times.specs.Times.{signed_entry}
-use Rattle.times.specs.Laws.Times.{times_columns_lem}
-use borrow.Author.Rules.{rules}
 use Rattle.times.proofs.times_columns.Given as goal
 
 abbrev pub signed_matrix_lem : List ℤ → List ℕ → Matrix

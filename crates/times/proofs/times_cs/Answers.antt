@@ -1,14 +1,13 @@
 -- The partners in the code are those of generator 3.
-use mathlib.Core.Path.{◌≡◌, refl, sym, ap, subst, ◌∙◌}
-use mathlib.Core.List.{[], ◌∷◌}
-use Prim.Native.Nat.{◌<◌}
+use mathlib.Core.Path.{◌≡◌, refl, sym, ap, ◌∙◌}
+use mathlib.Core.List.{◌∷◌}
 use native.Mathlib.Omega.{arith}
 use lib.ListN.{get_or}
 use Rattle.matrix.specs.Matrix.{entry, listed}
 use Rattle.matrix.specs.Laws.Array.{listed_cong}
 use Rattle.residue.specs.Generator.{table, place}
 use Rattle.times.specs.Times.{partners, pair_entry}
-use Rattle.times.specs.Laws.Times.{partner_lt, times_generator}
+use Rattle.times.specs.Laws.Times.{times_generator}
 use Rattle.times.proofs.times_cs.Goals as goal
 
 three : 1 ∷ 0 ∷ 5 ∷ 4 ∷ 3 ∷ 2 ∷ [] ≡ partners 3

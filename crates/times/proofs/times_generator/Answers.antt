@@ -1,7 +1,6 @@
 -- The partners are those of the generator.
 use mathlib.Core.Path.{sym, ap, ◌∙◌}
 use lib.ListN.{get_or}
-use borrow.Author.Rules.{rules}
 use Rattle.matrix.specs.Matrix.{entry, listed}
 use Rattle.matrix.specs.Laws.Array.{listed_cong}
 use Rattle.times.specs.Times.{pair_entry}

@@ -1,12 +1,7 @@
-use mathlib.Core.Path.{◌≡◌, refl, ◌∙◌}
-use Prim.Native.Nat.{◌-◌, ◌≤◌}
+use mathlib.Core.Path.{◌≡◌, refl}
 use native.Mathlib.Omega.{arith}
-use lib.IntN.{pos}
-use Rattle.matrix.specs.Laws.Range.{Filled, filled_none, filled_more, filled_all}
-use Rattle.matrix.specs.Laws.Machine.{kept}
-use Rattle.file.specs.File.{short_file, entry_of}
+use Rattle.matrix.specs.Laws.Range.{filled_all}
 use Rattle.unitary_file.specs.Unitary.{unitary_entries}
-use borrow.Author.Rules.{rules}
 use Rattle.unitary_file.proofs.decode.Goals as goal
 
 pub returns : goal.returns

@@ -1,13 +1,8 @@
 -- The invariant: the elements of `n` before i are the entries.
-use mathlib.Core.Path.{◌≡◌, refl, ◌∙◌}
 use Prim.Native.Nat.{◌-◌, ◌≤◌}
-use native.Mathlib.Omega.{arith}
 use lib.IntN.{pos}
-use Rattle.matrix.specs.Laws.Range.{Filled, filled_none, filled_more, filled_all}
-use Rattle.matrix.specs.Laws.Machine.{kept}
+use Rattle.matrix.specs.Laws.Range.{Filled}
 use Rattle.file.specs.File.{short_file, entry_of}
-use Rattle.unitary_file.specs.Unitary.{unitary_entries}
-use borrow.Author.Rules.{rules}
 use Rattle.unitary_file.proofs.decode.Given as goal
 
 abbrev pub invariant-loop-i : goal.invariant-loop-i

@@ -1,19 +1,12 @@
-use mathlib.Core.Bool.{Bool}
-use mathlib.Core.List.{List}
 use mathlib.Core.Path.{◌≡◌, refl, sym, ◌∙◌}
-use Prim.Native.Nat.{ℕ, ◌-◌, ◌/◌, ◌%◌, ◌^◌, ◌≤◌}
+use Prim.Native.Nat.{◌-◌, ◌^◌}
 use native.Mathlib.Omega.{arith}
-use lib.IntN.{ℤ, pos}
-use lib.Signed.{le_z}
-use mir.Syntax.{w64}
-use mir.Val.{to_z}
+use lib.IntN.{pos}
 use borrow.Author.Rules.{rules}
 use Rattle.matrix.specs.Range.{every_from}
 use Rattle.matrix.specs.Laws.Integer.{above→not_le, not_above→le}
 use Rattle.matrix.specs.Laws.Range.{every_next, every_stop}
 use Rattle.matrix.specs.Laws.Machine.{kept}
-use Rattle.gaussian.specs.Gaussian.{norm_of}
-use Rattle.unitary.specs.Unitary.{matrix_of}
 use Rattle.unitary_file.specs.Unitary.{is_small}
 use Rattle.unitary_file.proofs.is_small.Invariants.{small_at, size_at}
 use Rattle.unitary_file.proofs.is_small.Goals as goal

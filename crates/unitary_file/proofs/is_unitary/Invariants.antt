@@ -1,17 +1,10 @@
 -- The invariant: the pairs of rows before p are as they should be, so those from p on decide.
 use mathlib.Core.Bool.{Bool}
 use mathlib.Core.List.{List}
-use mathlib.Core.Path.{◌≡◌, refl, sym, ap, ◌∙◌}
+use mathlib.Core.Path.{◌≡◌}
 use Prim.Native.Nat.{ℕ, ◌-◌, ◌/◌, ◌%◌, ◌^◌, ◌≤◌}
-use native.Mathlib.Omega.{arith}
-use borrow.Author.Rules.{rules}
-use borrow.Author.Tests.{not-true, not-false}
 use lib.IntN.{ℤ, pos}
-use mir.Syntax.{w64}
-use mir.Val.{to_z}
 use Rattle.matrix.specs.Range.{every_from}
-use Rattle.matrix.specs.Laws.Range.{every_next, every_stop}
-use Rattle.matrix.specs.Laws.Machine.{kept}
 use Rattle.unitary.specs.Unitary.{matrix_of}
 use Rattle.unitary_file.specs.Unitary.{unitary_at, is_unitary}
 use Rattle.unitary_file.proofs.is_unitary.Given as goal

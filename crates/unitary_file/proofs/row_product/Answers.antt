@@ -1,12 +1,11 @@
-use mathlib.Core.Path.{◌≡◌, sym, ap₂, subst, ◌∙◌}
-use Prim.Native.Nat.{◌-◌, ◌^◌, ◌≤◌}
+use mathlib.Core.Path.{sym, ap₂, subst, ◌∙◌}
+use Prim.Native.Nat.{◌^◌}
 use native.Mathlib.Numerals.{add-one}
 use native.Mathlib.Omega.{arith}
 use borrow.Author.Rules.{rules}
 use Rattle.gaussian.specs.Gaussian as gaussian
-use Rattle.gaussian.specs.Gaussian.{Within, ◌⊕◌, ◌⊗◌, adjoint}
+use Rattle.gaussian.specs.Gaussian.{Within, ◌⊕◌, ◌⊗◌}
 use Rattle.gaussian.specs.Laws.Size.{within_more, within-⊗}
-use Rattle.unitary.specs.Unitary.{matrix_of}
 use Rattle.unitary_file.specs.Laws.Unitary.{terms_within}
 use Rattle.unitary_file.proofs.row_product.Goals as goal
 
@@ -15,11 +14,10 @@ unfolding gaussian.sum
 loop-c-init c = search rules
 
 pub plus-sum-requires : goal.plus-sum-requires
-plus-sum-requires c =
-    (
-      within_more (omega arith) (subst (Within (2 ^ 33)) (sym c.loop-c.invariant.1) (terms_within c.args.n.now c.requires.2 c.args.i c.args.j c.loop-c.c c.loop-c.invariant.0)),
-      within_more (omega arith) (subst (Within (2 ^ 31)) (sym c.times.ensures) (within-⊗ c.entry_of-x.ensures.1 c.conjugate_of-y.ensures.1)),
-    )
+plus-sum-requires c = (
+  within_more (omega arith) (subst (Within (2 ^ 33)) (sym c.loop-c.invariant.1) (terms_within c.args.n.now c.requires.2 c.args.i c.args.j c.loop-c.c c.loop-c.invariant.0)),
+  within_more (omega arith) (subst (Within (2 ^ 31)) (sym c.times.ensures) (within-⊗ c.entry_of-x.ensures.1 c.conjugate_of-y.ensures.1)),
+)
 
 pub loop-c-preserved : goal.loop-c-preserved
 unfolding gaussian.sum

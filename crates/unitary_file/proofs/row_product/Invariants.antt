@@ -1,14 +1,9 @@
 -- The invariant: `sum` is the sum of the first c products.
-use mathlib.Core.Path.{◌≡◌, sym, ap₂, subst, ◌∙◌}
-use Prim.Native.Nat.{◌-◌, ◌^◌, ◌≤◌}
-use native.Mathlib.Numerals.{add-one}
-use native.Mathlib.Omega.{arith}
-use borrow.Author.Rules.{rules}
+use mathlib.Core.Path.{◌≡◌}
+use Prim.Native.Nat.{◌-◌, ◌≤◌}
 use Rattle.gaussian.specs.Gaussian as gaussian
-use Rattle.gaussian.specs.Gaussian.{Within, ◌⊕◌, ◌⊗◌, adjoint}
-use Rattle.gaussian.specs.Laws.Size.{within_more, within-⊗}
+use Rattle.gaussian.specs.Gaussian.{◌⊗◌, adjoint}
 use Rattle.unitary.specs.Unitary.{matrix_of}
-use Rattle.unitary_file.specs.Laws.Unitary.{terms_within}
 use Rattle.unitary_file.proofs.row_product.Given as goal
 
 abbrev pub invariant-loop-c : goal.invariant-loop-c

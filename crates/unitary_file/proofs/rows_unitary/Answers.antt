@@ -7,7 +7,6 @@ use native.Mathlib.Omega.{arith}
 use lib.Dec.{lit<, eqb}
 use lib.IntN.{ℤ, pos, ◌*ℤ◌, *ℤ-zero}
 use lib.Signed.{mag}
-use borrow.Author.Rules.{rules}
 use mir.Syntax.{w64}
 use mir.Val.{of_z}
 use Rattle.matrix.specs.Integer as integer

@@ -2,11 +2,10 @@
 use mathlib.Core.Path.{ap, ◌∙◌}
 use Prim.Native.Nat.{◌*◌, ◌^◌}
 use lib.Dec.{lit<}
-use lib.IntN.{ℤ, ◌*ℤ◌}
-use borrow.Author.Rules.{rules}
+use lib.IntN.{◌*ℤ◌}
 use mir.Syntax.{w64}
 use mir.Val.{to_z, of_z}
-use Rattle.matrix.specs.Laws.Machine.{Sized, fits, again, stored, add, mul}
+use Rattle.matrix.specs.Laws.Machine.{Sized, again, stored, add, mul}
 use Rattle.gaussian.specs.declared.Gaussian.{Gaussian}
 use Rattle.gaussian.specs.Gaussian.{Within, norm_of}
 use Rattle.unitary_file.proofs.square_size.Goals as goal

@@ -7,12 +7,11 @@ use native.Mathlib.Omega.{arith}
 use borrow.Author.Tests.{eqb-true, ltb-false, le-leb}
 use Rattle.std.specs.Int.Signed.{le_z}
 use Rattle.matrix.specs.Matrix.{δ}
-use Rattle.matrix.specs.Integer as integer
 use Rattle.matrix.specs.Laws.Integer.{square_size, *ℤ-unit-r}
 use Rattle.matrix.specs.Laws.Range.{every_sound, every_complete}
 use Rattle.matrix.specs.Laws.Sum.{term_le_sum, δ_same}
 use Rattle.file.specs.File.{file_exponent}
-use Rattle.gaussian.specs.Gaussian.{real, ◌⊗◌, norm_of, product, adjoint}
+use Rattle.gaussian.specs.Gaussian.{real, norm_of, product, adjoint}
 use Rattle.gaussian.specs.Laws.Gaussian.{real-⊗, times_conj}
 use Rattle.gaussian.specs.Laws.Matrix.{sum_cong, real_sum, equals_sound, equals_complete}
 use Rattle.unitary.specs.Unitary.{Quotient, Unitary}

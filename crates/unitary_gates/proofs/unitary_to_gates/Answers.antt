@@ -1,8 +1,6 @@
 -- Each way out is a case of the promise.
-use mathlib.Core.List.{[]}
 use native.Mathlib.Omega.{arith}
-use borrow.Author.Rules.{rules}
-use Rattle.unitary_gates.specs.Laws.Promise.{computed_orthogonal, held, unitary_refused, is_unitary_lem, is_narrow, is_small_lem, written_fits, unitary_no_room, unitary_done}
+use Rattle.unitary_gates.specs.Laws.Promise.{computed_orthogonal, held, unitary_refused, is_unitary_lem, is_narrow, is_small_lem, unitary_no_room, unitary_done}
 use Rattle.unitary_gates.proofs.unitary_to_gates.Goals as goal
 
 pub returns-then-refusal-ne0 : goal.returns-then-refusal-ne0

@@ -1,12 +1,7 @@
-use mathlib.Core.Path.{◌≡◌, refl, ◌∙◌}
-use mathlib.Core.List.{List}
-use Prim.Native.Nat.{◌-◌, ◌≤◌}
+use mathlib.Core.Path.{◌∙◌}
 use native.Mathlib.Omega.{arith}
-use lib.ListN.{length, length-set}
-use borrow.Author.Rules.{rules}
-use Rattle.letter.specs.declared.Gate.{Gate}
-use Rattle.word_code.specs.Code.{encoded}
-use Rattle.word_code.specs.Laws.Code.{Begun, begun, more, over, full}
+use lib.ListN.{length-set}
+use Rattle.word_code.specs.Laws.Code.{more, over}
 use Rattle.word_code.proofs.write_code.Goals as goal
 
 pub returns-then-rest-eq0 : goal.returns-then-rest-eq0

@@ -1,13 +1,11 @@
 -- The invariant: of every word that the number stands for, i letters are written and the rest of the number is that of the others.
-use mathlib.Core.Path.{◌≡◌, refl, ◌∙◌}
+use mathlib.Core.Path.{◌≡◌}
 use mathlib.Core.List.{List}
 use Prim.Native.Nat.{◌-◌, ◌≤◌}
-use native.Mathlib.Omega.{arith}
-use lib.ListN.{length, length-set}
-use borrow.Author.Rules.{rules}
+use lib.ListN.{length}
 use Rattle.letter.specs.declared.Gate.{Gate}
 use Rattle.word_code.specs.Code.{encoded}
-use Rattle.word_code.specs.Laws.Code.{Begun, begun, more, over, full}
+use Rattle.word_code.specs.Laws.Code.{Begun}
 use Rattle.word_code.proofs.write_code.Given as goal
 
 abbrev pub invariant-loop-i : goal.invariant-loop-i

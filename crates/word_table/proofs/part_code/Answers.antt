@@ -1,7 +1,5 @@
 -- The table is the definition's.
-use mathlib.Core.List.{[]}
 use lib.ListN.{get_or-map}
-use borrow.Author.Rules.{rules}
 use Rattle.word.specs.Word.{part_words}
 use Rattle.word_code.specs.Code.{encoded}
 use Rattle.word_table.proofs.part_code.Goals as goal

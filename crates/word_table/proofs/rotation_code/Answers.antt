@@ -1,7 +1,6 @@
 -- The tables are those of the definition, on either qubit.
-use mathlib.Core.List.{[], map}
+use mathlib.Core.List.{map}
 use lib.ListN.{get_or-map}
-use borrow.Author.Rules.{rules}
 use Rattle.word.specs.Word.{rotation_words, on_second}
 use Rattle.word_code.specs.Code.{encoded}
 use Rattle.word_table.proofs.rotation_code.Goals as goal

@@ -1,12 +1,10 @@
 -- The parts stand right after the rotations, which have at most 12 letters; the sign says whether the halves are even.
 use mathlib.Core.Bool.{cond}
 use mathlib.Core.Path.{◌≡◌, sym, ap, ◌∙◌}
-use mathlib.Core.List.{List, ◌++◌}
+use mathlib.Core.List.{◌++◌}
 use Prim.Native.Nat.{◌+◌, ◌≤◌}
 use native.Mathlib.Omega.{arith}
-use borrow.Author.Rules.{rules}
 use lib.ListN.{length}
-use Rattle.letter.specs.declared.Gate.{Gate}
 use Rattle.word.specs.Word.{is_even_half, halves_even, rotations_of, parts_of, clifford_word}
 use Rattle.letter.specs.Written.{Written}
 use Rattle.word.specs.Laws.Word.{rotations_length}

@@ -1,10 +1,9 @@
 -- The second rotation stands right after the first; either has at most six letters.
 use mathlib.Core.Bool.{true, false}
 use mathlib.Core.Path.{ap₂}
-use mathlib.Core.List.{List, [], ◌++◌}
+use mathlib.Core.List.{List, ◌++◌}
 use Prim.Native.Nat.{ℕ, ◌+◌, ◌≤◌}
 use native.Mathlib.Omega.{arith}
-use borrow.Author.Rules.{rules}
 use lib.ListN.{length, get_or}
 use Rattle.letter.specs.declared.Gate.{Gate}
 use Rattle.letter.specs.Written.{Written}
