@@ -1,6 +1,6 @@
 -- Bundles (document 02, P7): "A bundle holds up to 512 sheets end to end, then a trailer pointing back". A bundle is the list of its bytes.
 use Rattle.std.specs.Prelude.{Bool, not, cond, ◌&&◌, ℕ, zero, suc, ◌+◌, ◌*◌, ◌-◌, ◌/◌, ◌%◌, ◌<◌, eqb, leb, ltb, length, get_or, take, drop}
-use mathlib.Core.List.{List, ◌∷◌, ◌++◌, flatten}
+use mathlib.Core.List.{List, [], ◌∷◌, ◌++◌, flatten}
 use Rattle.matrix.specs.Range.{every, tabulate}
 use Rattle.file.specs.File.{two_at}
 use Rattle.bundle.specs.declared.Part.{Part}

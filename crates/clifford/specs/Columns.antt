@@ -1,6 +1,6 @@
 -- Signed permutations by their columns (document 01, "Sheet"): "six bytes for columns 1 to 6 of the Clifford: r for +1 in row r, 128 + r
 -- for −1". Rows and columns are counted from 0 here, so byte r + 1 or r + 129 stands for row r.
-use Rattle.std.specs.Prelude.{Bool, true, not, cond, ◌&&◌, ◌||◌, List, ◌∷◌, map, ◌≢◌, ◌⊎◌, ◌≡◌, ℕ, ◌+◌, ◌-◌, ◌%◌, ◌<◌, eqb, leb, ltb, ℤ, pos, negsuc, length, get_or}
+use Rattle.std.specs.Prelude.{Bool, true, not, cond, ◌&&◌, ◌||◌, List, [], ◌∷◌, map, ◌≢◌, ◌⊎◌, ◌≡◌, ℕ, ◌+◌, ◌-◌, ◌%◌, ◌<◌, eqb, leb, ltb, ℤ, pos, negsuc, length, get_or}
 use Rattle.matrix.specs.Range.{first_from, tabulate}
 use Rattle.matrix.specs.Integer.{equals}
 use Rattle.matrix.specs.Matrix.{Matrix, scaled}

@@ -1,6 +1,6 @@
 -- Stretches of a gate list and their letters Z (document 02, P9): "In each stretch without C, the gate list now has as many Z as there are
 -- indices among 1 to 3 that the stretch sends to 4 to 6. No stretch over H, h, S, s, Z with that image up to sign has fewer."
-use Rattle.std.specs.Prelude.{cond, List, ◌∷◌, ◌++◌, ◌≡◌, ℕ, ◌+◌, ◌<◌, ◌≤◌, ltb, length, get_or}
+use Rattle.std.specs.Prelude.{cond, List, [], ◌∷◌, ◌++◌, ◌≡◌, ℕ, ◌+◌, ◌<◌, ◌≤◌, ltb, length, get_or}
 use Rattle.matrix.specs.Matrix.{Matrix}
 use Rattle.matrix.specs.Operator.{SameUpToSign}
 use Rattle.clifford.specs.Columns.{column_row}

@@ -2,7 +2,7 @@
 
 #![tactic(auto)]
 
-ghost use Rattle.std.specs.Prelude.{◌≡◌, ◌∷◌, ◌+◌, ◌*◌, ◌<◌, ◌≤◌, ltb, get_or};
+ghost use Rattle.std.specs.Prelude.{◌≡◌, [], ◌∷◌, ◌+◌, ◌*◌, ◌<◌, ◌≤◌, ltb, get_or};
 ghost use Rattle.clifford.specs.Columns.{row_of, is_minus, is_even};
 ghost use Rattle.word.specs.Word.{is_low, bit, low_bits, part_inverses, local_columns, axis_number};
 

@@ -1,5 +1,5 @@
 -- Gate lists and what they multiply to (document 01, "Gate images").
-use Rattle.std.specs.Prelude.{List, ◌∷◌, ℕ}
+use Rattle.std.specs.Prelude.{List, [], ◌∷◌, ℕ}
 use Rattle.matrix.specs.Matrix.{δ}
 use Rattle.matrix.specs.Operator.{Operator, operator, times_operator, SameOperator}
 use Rattle.clifford.specs.Columns.{columns_matrix}

@@ -1,5 +1,5 @@
 -- Gate lists read into operators (document 01, "The writer of a gate list").
-use Rattle.std.specs.Prelude.{cond, ◌≡◌, List, ◌∷◌, ◌++◌, ℕ, ◌+◌, ◌*◌, ◌≤◌, ltb, length}
+use Rattle.std.specs.Prelude.{cond, ◌≡◌, List, [], ◌∷◌, ◌++◌, ℕ, ◌+◌, ◌*◌, ◌≤◌, ltb, length}
 use Rattle.matrix.specs.Matrix.{listed}
 use Rattle.matrix.specs.Array.{Least, least_form}
 use Rattle.file.specs.declared.Answer.{Answer}

@@ -1,6 +1,6 @@
 -- The gate list of a normal form (document 01, "Gate list"): "exactly t letters C. Its Clifford letters are the builder's choice, from tables
 -- printed in docs/".
-use Rattle.std.specs.Prelude.{◌≡◌, true, List, ◌∷◌, ◌++◌, ℕ, ◌+◌, ◌-◌, ◌%◌, ℤ, get_or}
+use Rattle.std.specs.Prelude.{◌≡◌, true, List, [], ◌∷◌, ◌++◌, ℕ, ◌+◌, ◌-◌, ◌%◌, ℤ, get_or}
 use Rattle.matrix.specs.Matrix.{entry}
 use Rattle.clifford.specs.Columns.{column_bytes, are_permutation, is_even}
 use Rattle.reduction.specs.Reduction.{taken, remaining}

@@ -1,6 +1,6 @@
 -- Layers (document 02, P13): "Blocks that share a qubit keep their order. Give each block its layer, from 0, so that blocks in a layer share no
 -- qubit. No valid layering has fewer layers or puts any block earlier." A layering says the layer of the block at each place.
-use Rattle.std.specs.Prelude.{cond, true, List, ◌∷◌, ◌++◌, ◌≡◌, ℕ, zero, suc, ◌+◌, max, ◌<◌, ◌≤◌, eqb, get_or}
+use Rattle.std.specs.Prelude.{cond, true, List, [], ◌∷◌, ◌++◌, ◌≡◌, ℕ, zero, suc, ◌+◌, max, ◌<◌, ◌≤◌, eqb, get_or}
 use Rattle.matrix.specs.Range.{some, total}
 use Rattle.block.specs.Block.{Program, shares}
 

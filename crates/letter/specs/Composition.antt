@@ -1,5 +1,5 @@
 -- Products of signed permutations (document 01, "Clifford"), by the bytes of their columns.
-use Rattle.std.specs.Prelude.{cond, List, ◌∷◌, map, ℕ, get_or}
+use Rattle.std.specs.Prelude.{cond, List, [], ◌∷◌, map, ℕ, get_or}
 use Rattle.clifford.specs.Columns.{row_of, is_minus, negated}
 use Rattle.letter.specs.declared.Gate.{Gate}
 use Rattle.letter.specs.Gate.{columns, is_cs}

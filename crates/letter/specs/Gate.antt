@@ -1,5 +1,5 @@
 -- The six letters of a gate list and their images (document 01, "Gate images").
-use Rattle.std.specs.Prelude.{Bool, true, false, cond, List, ◌∷◌, ℕ, ◌+◌, eqb}
+use Rattle.std.specs.Prelude.{Bool, true, false, cond, List, [], ◌∷◌, ℕ, ◌+◌, eqb}
 use Rattle.matrix.specs.Matrix.{Matrix, δ, product}
 use Rattle.clifford.specs.Columns.{columns_matrix}
 use Rattle.letter.specs.declared.Gate.{Gate}

@@ -1,5 +1,5 @@
 -- What `list_short` writes (document 02, P12): "each line the count and the generators".
-use mathlib.Core.List.{List, ◌∷◌, flat_map}
+use mathlib.Core.List.{List, ◌∷◌, [], flat_map}
 use Rattle.std.specs.Prelude.{ℕ, length}
 use Rattle.matrix.specs.Range.{tabulate}
 use Rattle.sheet_bytes.specs.Bytes.{sheet_numbers}

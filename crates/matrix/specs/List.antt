@@ -1,5 +1,5 @@
 -- Lists of numbers: whether two are equal, and which comes first.
-use Rattle.std.specs.Prelude.{Bool, true, false, ◌&&◌, ◌||◌, List, ◌∷◌, ℕ, eqb, ltb}
+use Rattle.std.specs.Prelude.{Bool, true, false, ◌&&◌, ◌||◌, List, [], ◌∷◌, ℕ, eqb, ltb}
 
 abbrev pub same_list : List ℕ → List ℕ → Bool
 same_list [] [] = true

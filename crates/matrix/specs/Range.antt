@@ -1,6 +1,6 @@
 -- Ranges of indices: the sum over a range, a test at every index of it, the list and the number that a function of the index makes.
 -- Each recursion goes in the direction of the loop that computes it.
-use Rattle.std.specs.Prelude.{Bool, true, cond, ◌&&◌, List, ◌∷◌, ℕ, zero, suc, ◌+◌, ◌*◌, ltb, ℤ, pos, ◌+ℤ◌}
+use Rattle.std.specs.Prelude.{Bool, true, cond, ◌&&◌, List, [], ◌∷◌, ℕ, zero, suc, ◌+◌, ◌*◌, ltb, ℤ, pos, ◌+ℤ◌}
 
 -- f 0 + .. + f (n − 1)
 unfoldable pub sum : ℕ → (ℕ → ℤ) → ℤ

@@ -1,5 +1,5 @@
 -- How the power of ω is found without large numbers (document 02, P5): modulo 17, where i is 4, 1 over root two is 14, and ω is 2.
-use Rattle.std.specs.Prelude.{List, ◌∷◌, ℕ, ◌*◌, ◌-◌, ◌%◌, ◌^◌, ◌<◌, eqb, ℤ, pos, negsuc, ◌+ℤ◌, ◌*ℤ◌, get_or}
+use Rattle.std.specs.Prelude.{List, [], ◌∷◌, ℕ, ◌*◌, ◌-◌, ◌%◌, ◌^◌, ◌<◌, eqb, ℤ, pos, negsuc, ◌+ℤ◌, ◌*ℤ◌, get_or}
 use Rattle.matrix.specs.Range.{first_from, tabulate, total}
 use Rattle.letter.specs.declared.Gate.{Gate}
 use Rattle.gaussian.specs.declared.Gaussian.{Gaussian}

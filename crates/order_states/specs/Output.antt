@@ -1,5 +1,5 @@
 -- What `order_states` writes: the line `order N` or `refused 14`, and nothing where an argument is no number.
-use Rattle.std.specs.Prelude.{List, ℕ}
+use Rattle.std.specs.Prelude.{List, [], ℕ}
 use Rattle.file.specs.declared.Answer.{Answer}
 use Rattle.file.specs.declared.Answer.TheVariants.{Count, Refused}
 use Rattle.order.specs.Order.{order_answer}

@@ -1,6 +1,6 @@
 -- Gate lists read from OpenQASM 2.0 text, and from letters to be written as such text (document 02, P8).
 use Rattle.std.specs.Prelude.{Bool, cond, ◌||◌, ℕ, eqb, ltb, length, drop}
-use mathlib.Core.List.{List, ◌∷◌, ◌++◌, flatten, map}
+use mathlib.Core.List.{List, [], ◌∷◌, ◌++◌, flatten, map}
 use Rattle.matrix.specs.List.{same_list}
 use Rattle.matrix.specs.Matrix.{δ}
 use Rattle.matrix.specs.Operator.{Operator, operator, times_operator}

@@ -1,5 +1,5 @@
 -- The rule of cutting (document 01), for operators of every exponent. A matrix is the value of an array of 36 numbers.
-use Rattle.std.specs.Prelude.{Bool, cond, List, ◌∷◌, ℕ, zero, suc, ◌+◌, ℤ}
+use Rattle.std.specs.Prelude.{Bool, cond, List, [], ◌∷◌, ℕ, zero, suc, ◌+◌, ℤ}
 use Rattle.matrix.specs.Matrix.{Matrix, entry, listed}
 use Rattle.matrix.specs.Operator.{Operator, operator, times_operator}
 use Rattle.matrix.specs.Array.{row_mask, half_sums, least_form}

@@ -1,5 +1,5 @@
 -- The fifteen generators (document 01), and which of them a matrix's odd entries call for ("The rule of cutting").
-use Rattle.std.specs.Prelude.{Bool, List, ◌∷◌, map, ℕ, ◌+◌, ◌*◌, ◌-◌, eqb, pos, negsuc, ◌+ℤ◌, ◌-ℤ◌, ◌*ℤ◌, get_or}
+use Rattle.std.specs.Prelude.{Bool, List, [], ◌∷◌, map, ℕ, ◌+◌, ◌*◌, ◌-◌, eqb, pos, negsuc, ◌+ℤ◌, ◌-ℤ◌, ◌*ℤ◌, get_or}
 use Rattle.matrix.specs.Range.{sum, every, first_from}
 use Rattle.matrix.specs.Matrix.{Matrix, δ, combined}
 

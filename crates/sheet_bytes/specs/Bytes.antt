@@ -1,5 +1,5 @@
 -- A sheet's bytes (document 01, "Sheet"; document 02, P2, P4 and P10), and the operator that they stand for.
-use Rattle.std.specs.Prelude.{cond, List, ◌∷◌, ◌++◌, ℕ, ◌+◌, ◌-◌, ℤ, length, get_or, take, drop}
+use Rattle.std.specs.Prelude.{cond, List, [], ◌∷◌, ◌++◌, ℕ, ◌+◌, ◌-◌, ℤ, length, get_or, take, drop}
 use Rattle.matrix.specs.Matrix.{entry, listed}
 use Rattle.matrix.specs.Operator.{Operator}
 use Rattle.clifford.specs.Columns.{columns_matrix, column_bytes, is_minus, times_sign, signed}

@@ -2,7 +2,7 @@
 -- `short_laws` of `Laws/`. Operators, their product and count, and Cliffords are those of the page crates/count/specs/Count.antt;
 -- `List.Memᴰ s ss` says that s stands in the list ss.
 use Rattle.std.specs.Prelude.{true, cond, ◌↔◌, ◌≡◌, ℕ, zero, suc, ◌≤◌, ◌<◌, eqb, length, get_or}
-use mathlib.Core.List.{List, ◌∷◌, ◌++◌, map, flat_map, Memᴰ}
+use mathlib.Core.List.{List, [], ◌∷◌, ◌++◌, map, flat_map, Memᴰ}
 use Rattle.matrix.specs.List.{before}
 use Rattle.matrix.specs.Range.{tabulate}
 use Rattle.matrix.specs.Matrix.{δ}

@@ -1,5 +1,5 @@
 -- The six-by-six form as it is computed. Each of the six matrices of its basis has its entries at a place and at the complementary one, 5 less it.
-use Rattle.std.specs.Prelude.{Bool, List, ◌∷◌, ◌≡◌, ℕ, ◌+◌, ◌*◌, ◌≤◌, ℤ, pos, length, get_or}
+use Rattle.std.specs.Prelude.{Bool, List, [], ◌∷◌, ◌≡◌, ℕ, ◌+◌, ◌*◌, ◌≤◌, ℤ, pos, length, get_or}
 use Rattle.matrix.specs.Range.{every}
 use Rattle.matrix.specs.Integer.{equals}
 use Rattle.matrix.specs.Matrix.{entry, listed}

@@ -1,5 +1,5 @@
 -- The cases of document 02, P9: lists with their signs, stretches, and indices that cross; a table of cases, and the test that each passes.
-use Rattle.std.specs.Prelude.{Bool, true, false, ◌&&◌, List, ◌∷◌, map, ℕ, eqb, negsuc, ◌*ℤ◌}
+use Rattle.std.specs.Prelude.{Bool, true, false, ◌&&◌, List, [], ◌∷◌, map, ℕ, eqb, negsuc, ◌*ℤ◌}
 use Rattle.matrix.specs.List.{same_list}
 use Rattle.matrix.specs.Matrix.{Matrix, δ, listed}
 use Rattle.letter.specs.declared.Gate.{Gate}

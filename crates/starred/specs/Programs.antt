@@ -1,6 +1,6 @@
 -- The cases of document 02, P13: programs with their layers, and refused ones; a table of cases, and the test that each passes.
 use Rattle.std.specs.Prelude.{Bool, true, false, ◌&&◌, ℕ, suc, ◌*◌, eqb, replicate}
-use mathlib.Core.List.{List, ◌∷◌, flatten}
+use mathlib.Core.List.{List, [], ◌∷◌, flatten}
 use Rattle.matrix.specs.Range.{tabulate}
 use Rattle.matrix.specs.List.{same_list}
 use Rattle.file.specs.declared.Answer.{Answer}

@@ -1,5 +1,5 @@
 -- The cases of document 02, P8: texts written and read, and lists and texts that are refused. Each line is given by its bytes.
-use Rattle.std.specs.Prelude.{Bool, true, false, ◌&&◌, List, ◌∷◌, ◌++◌, map, ℕ, eqb}
+use Rattle.std.specs.Prelude.{Bool, true, false, ◌&&◌, List, [], ◌∷◌, ◌++◌, map, ℕ, eqb}
 use Rattle.matrix.specs.List.{same_list}
 use Rattle.letter.specs.declared.Gate.{Gate}
 use Rattle.letter.specs.Gate.{letter}

@@ -1,7 +1,7 @@
 -- Document 01's trial cuts that are marked to be proved of the definitions, with the first byte of document 02, P4, the last byte of P2 and the
 -- L of P3; these requests' own cases, the orders of P1, the walks of P6, the bundles of P7, the two kinds of file of P10, the counts of P11 and the pairs of
 -- P12: a table of cases, and the test that each passes.
-use Rattle.std.specs.Prelude.{Bool, true, false, ◌&&◌, List, ◌∷◌, ◌++◌, ℕ, ◌+◌, ◌-◌, ◌^◌, eqb, pos, negsuc, ◌*ℤ◌, take, replicate}
+use Rattle.std.specs.Prelude.{Bool, true, false, ◌&&◌, List, [], ◌∷◌, ◌++◌, ℕ, ◌+◌, ◌-◌, ◌^◌, eqb, pos, negsuc, ◌*ℤ◌, take, replicate}
 use Rattle.matrix.specs.List.{same_list}
 use Rattle.matrix.specs.Matrix.{Matrix, δ, replaced, listed}
 use Rattle.matrix.specs.Operator.{Operator, times_operator, inverse, negative}

@@ -1,6 +1,6 @@
 -- The cases of document 02, P5: products of plain matrices, unitaries by their 65 bytes, with list and power of ω, and refusals; a table of cases, and
 -- the test that each passes.
-use Rattle.std.specs.Prelude.{Bool, true, ◌&&◌, List, ◌∷◌, ◌++◌, map, ℕ, ◌/◌, ◌%◌, eqb, ℤ, pos, negsuc}
+use Rattle.std.specs.Prelude.{Bool, true, ◌&&◌, List, [], ◌∷◌, ◌++◌, map, ℕ, ◌/◌, ◌%◌, eqb, ℤ, pos, negsuc}
 use Rattle.matrix.specs.List.{same_list}
 use Rattle.file.specs.File.{short_file, highest_of, bits_of}
 use Rattle.letter.specs.declared.Gate.{Gate}

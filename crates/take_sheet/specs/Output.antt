@@ -1,5 +1,5 @@
 -- What `take_sheet` writes: the bytes of a sheet, or the one line `refused N`, and nothing where the argument is no number.
-use Rattle.std.specs.Prelude.{cond, List, ℕ, ◌-◌, eqb, length, drop}
+use Rattle.std.specs.Prelude.{cond, List, [], ℕ, ◌-◌, eqb, length, drop}
 use Rattle.text_read.specs.declared.Number.{Number}
 use Rattle.text_read.specs.declared.Number.TheVariants.{Is, Unknown}
 use Rattle.text.specs.Text.{refused_line}

@@ -1,5 +1,5 @@
 -- What the programs print, as lists of bytes in ASCII, and the decimal numbers that they take as arguments.
-use Rattle.std.specs.Prelude.{cond, List, ◌∷◌, ◌++◌, ℕ, ◌+◌, ◌/◌, ◌%◌, ltb}
+use Rattle.std.specs.Prelude.{cond, List, [], ◌∷◌, ◌++◌, ℕ, ◌+◌, ◌/◌, ◌%◌, ltb}
 
 -- ---- numbers written
 

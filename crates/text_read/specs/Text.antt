@@ -1,5 +1,5 @@
 -- What the programs read: decimal numbers as arguments, and text that ends in a line feed.
-use Rattle.std.specs.Prelude.{Bool, cond, ◌&&◌, List, ◌∷◌, ℕ, ◌+◌, ◌*◌, ◌-◌, eqb, leb, ltb, length, get_or, take}
+use Rattle.std.specs.Prelude.{Bool, cond, ◌&&◌, List, [], ◌∷◌, ℕ, ◌+◌, ◌*◌, ◌-◌, eqb, leb, ltb, length, get_or, take}
 use Rattle.text_read.specs.declared.Number.{Number}
 use Rattle.text_read.specs.declared.Number.TheVariants.{Is, Unknown}
 

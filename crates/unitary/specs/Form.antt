@@ -1,6 +1,6 @@
 -- The six-by-six form of a unitary: how N acts on antisymmetric matrices A, by N A Nᵀ, in a basis in which the images of the plain gates are,
 -- up to a power of ω, those of document 01.
-use Rattle.std.specs.Prelude.{Bool, ◌≡◌, List, ◌∷◌, ℕ, ◌+◌, ◌*◌, ◌<◌, pos, negsuc, get_or}
+use Rattle.std.specs.Prelude.{Bool, ◌≡◌, List, [], ◌∷◌, ℕ, ◌+◌, ◌*◌, ◌<◌, pos, negsuc, get_or}
 use Rattle.matrix.specs.Integer.{equals}
 use Rattle.matrix.specs.Range.{first_from}
 use Rattle.matrix.specs.Array.{everywhere}

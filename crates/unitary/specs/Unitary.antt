@@ -1,6 +1,6 @@
 -- Unitaries (document 02, P5), and the plain matrices of the gates (source 001): a four-by-four matrix of Gaussian integers over a power of root two; "the
 -- first qubit is the left tensor factor".
-use Rattle.std.specs.Prelude.{cond, List, ◌∷◌, ℕ, zero, suc, ◌+◌, ◌*◌, ◌/◌, ◌%◌, ◌^◌, ◌<◌, eqb, ℤ, pos, negsuc, get_or}
+use Rattle.std.specs.Prelude.{cond, List, [], ◌∷◌, ℕ, zero, suc, ◌+◌, ◌*◌, ◌/◌, ◌%◌, ◌^◌, ◌<◌, eqb, ℤ, pos, negsuc, get_or}
 use Rattle.matrix.specs.Operator.{Equal}
 use Rattle.letter.specs.declared.Gate.{Gate}
 use Rattle.letter.specs.declared.Gate.TheVariants.{H1, H2, S1, S2, Cz, Cs}

@@ -2,7 +2,7 @@
 -- A Clifford is given by the bytes of its columns. Its halves are rows 1 to 3, which the first qubit's gates move, and rows 4 to 6, which
 -- the second's do. The word is a rotation of either half, a part that takes columns from one half across to the other, and a part that says
 -- which of columns 4 to 6 these are. It multiplies to the Clifford or to its negative.
-use Rattle.std.specs.Prelude.{Bool, true, false, cond, List, ◌∷◌, ◌++◌, map, ℕ, ◌+◌, ◌*◌, ◌%◌, ltb, get_or}
+use Rattle.std.specs.Prelude.{Bool, true, false, cond, List, [], ◌∷◌, ◌++◌, map, ℕ, ◌+◌, ◌*◌, ◌%◌, ltb, get_or}
 use Rattle.clifford.specs.Columns.{row_of, is_minus, is_even}
 use Rattle.letter.specs.Composition.{composed}
 use Rattle.letter.specs.declared.Gate.{Gate}

@@ -2,7 +2,7 @@
 
 #![tactic(auto)]
 
-ghost use Rattle.std.specs.Prelude.{◌≡◌, ◌+◌, ◌<◌, ◌≤◌, length, get_or};
+ghost use Rattle.std.specs.Prelude.{[], ◌≡◌, ◌+◌, ◌<◌, ◌≤◌, length, get_or};
 ghost use Rattle.letter.specs.Written.{Written};
 ghost use Rattle.word.specs.Word.{part_words, rotation_words, on_qubit, rotations_of, parts_of, clifford_word, word_sign};
 ghost use Rattle.word_code.specs.Code.{encoded};

@@ -2,7 +2,7 @@
 use Rattle.std.specs.Prelude.{◌≡◌, refl, ◌≢◌, Bool, true, false, not, ℕ, zero, suc, ◌≤◌, ◌<◌, ltb, length}
 use Rattle.std.proofs.Common.{sym, subst, ◌∙◌, zero-add, length-append, get_or-append-add, ltb-false}
 use Rattle.std.proofs.Math.Path.{ap}
-use mathlib.Core.List.{List, ◌∷◌, ◌++◌, flatten}
+use mathlib.Core.List.{List, [], ◌∷◌, ◌++◌, flatten}
 use Rattle.std.proofs.Math.Decide.{dec_lt}
 use native.Mathlib.Omega.{arith}
 use Rattle.std.proofs.Math.ListN.{get_or, get_or-eq_default}

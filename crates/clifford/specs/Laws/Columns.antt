@@ -1,7 +1,7 @@
 -- Column bytes and the matrices that they stand for: a signed permutation is exactly an orthogonal operator of exponent 0, and its six bytes
 -- are its own.
 use Rattle.std.proofs.Math.Path.{◌≡◌, ap}
-use Rattle.std.specs.Prelude.{refl, ◌≢◌, ◌⊎◌, true, false, cond, ◌&&◌, List, ◌∷◌, map, eqb, leb, ℤ, ◌*ℤ◌, length, get_or}
+use Rattle.std.specs.Prelude.{refl, ◌≢◌, ◌⊎◌, true, false, cond, ◌&&◌, List, [], ◌∷◌, map, eqb, leb, ℤ, ◌*ℤ◌, length, get_or}
 use Rattle.std.proofs.Common.{sym, ap₂, ◌∙◌, subst, inl, inr, ⊎_elim, zero-add, eqb→eq, leb→le, ext_get_or, eq-eqb, ne_eqb, le-leb}
 use Rattle.std.proofs.Math.Bool.{Bool, not}
 use Prim.Native.Nat.{ℕ, zero, suc, ◌+◌, ◌*◌, ◌-◌, ◌<◌, ◌≤◌}

@@ -1,5 +1,5 @@
 -- Column bytes times a sign: the matrix is multiplied by it, and it can be taken off again.
-use Rattle.std.specs.Prelude.{◌≡◌, refl, Bool, true, false, not, cond, ◌&&◌, List, ◌∷◌, ℕ, zero, suc, ◌<◌, T, eqb, pos, negsuc, ◌*ℤ◌, length, get_or}
+use Rattle.std.specs.Prelude.{◌≡◌, refl, Bool, true, false, not, cond, ◌&&◌, List, [], ◌∷◌, ℕ, zero, suc, ◌<◌, T, eqb, pos, negsuc, ◌*ℤ◌, length, get_or}
 use Rattle.std.proofs.Common.{sym, ap, ap₂, ◌∙◌, ⊎_elim, map-id, arith, eqb→eq, ext_get_or}
 use Rattle.std.specs.Bool.{beq}
 use Rattle.std.proofs.lemmas.List.{length-map}

@@ -1,6 +1,6 @@
 -- Proper orthogonal operators form a group, and so do Cliffords. A product is proper because the gate lists of its factors, one after the other,
 -- multiply to it; an inverse is, because the inverse of each letter's image is.
-use Rattle.std.specs.Prelude.{◌≡◌, refl, List, ◌∷◌, ◌++◌, ◌<ℤ◌}
+use Rattle.std.specs.Prelude.{◌≡◌, refl, List, [], ◌∷◌, ◌++◌, ◌<ℤ◌}
 use Rattle.std.proofs.Common.{sym, ◌∙◌, subst, arith}
 use lib.IntN.{pos, negsuc, pow}
 use Rattle.matrix.specs.Range.{sum}

@@ -1,6 +1,6 @@
 -- A word over H, h, S, s, Z takes no more indices across than it has letters Z: H, h, S and s keep the halves 1 to 3 and 4 to 6, and Z changes the
 -- number by at most one. So every word with an image up to sign has at least the image's crossing number of letters Z.
-use Rattle.std.specs.Prelude.{◌≡◌, refl, Bool, true, false, not, cond, List, ◌∷◌, ℕ, zero, suc, ◌+◌, ◌<◌, ◌≤◌, eqb, ltb, ℤ, pos, negsuc, neg_ℤ, ◌*ℤ◌}
+use Rattle.std.specs.Prelude.{◌≡◌, refl, Bool, true, false, not, cond, List, [], ◌∷◌, ℕ, zero, suc, ◌+◌, ◌<◌, ◌≤◌, eqb, ltb, ℤ, pos, negsuc, neg_ℤ, ◌*ℤ◌}
 use Rattle.std.proofs.Common.{sym, ap, ◌∙◌, arith, eqb-true, ne_eqb}
 use Rattle.matrix.specs.Range.{first_from}
 use Rattle.matrix.specs.Integer.{equals}

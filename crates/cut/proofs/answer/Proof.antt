@@ -1,6 +1,6 @@
 -- The text is that of the answer's case.
 use mathlib.Core.Path.{sym}
-use mathlib.Core.List.{◌∷◌, ◌++◌}
+use mathlib.Core.List.{[], ◌∷◌, ◌++◌}
 use Prim.Native.Nat.{◌+◌}
 use native.Mathlib.Omega.{arith}
 use lib.ListN.{take, length-append}

@@ -1,5 +1,6 @@
 -- A row of the table of inverses has the bytes of columns, as the product asks.
 use mathlib.Core.Path.{ap, ap₂, ◌∙◌}
+use mathlib.Core.List.{[]}
 use Prim.Native.Nat.{◌+◌}
 use native.Mathlib.Omega.{arith}
 use lib.ListN.{get_or}

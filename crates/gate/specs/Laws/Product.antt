@@ -1,5 +1,5 @@
 -- The product of a gate list, of whatever length: orthogonal, proper, and of exponent the number of its letters C.
-use Rattle.std.specs.Prelude.{◌≡◌, refl, ◌≢◌, Bool, true, not, cond, ◌&&◌, List, ◌∷◌, ◌++◌, ℕ, ◌<◌, ◌≤◌, T, eqb, ltb, ℤ, pos, negsuc, ◌*ℤ◌, ◌-ℤ◌, ◌<ℤ◌}
+use Rattle.std.specs.Prelude.{◌≡◌, refl, ◌≢◌, Bool, true, not, cond, ◌&&◌, List, [], ◌∷◌, ◌++◌, ℕ, ◌<◌, ◌≤◌, T, eqb, ltb, ℤ, pos, negsuc, ◌*ℤ◌, ◌-ℤ◌, ◌<ℤ◌}
 use Rattle.std.proofs.Common.{sym, subst, ap, ◌∙◌, arith, ltb→lt, T_not}
 use Rattle.std.proofs.Math.Dec.{eqb_refl}
 use Rattle.matrix.specs.Range.{every_from}

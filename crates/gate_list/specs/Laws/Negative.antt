@@ -1,5 +1,5 @@
 -- The list of the generators gs and of the negative of a Clifford has the same letters and the other sign.
-use Rattle.std.specs.Prelude.{◌≡◌, false, true, List, ◌∷◌, ◌++◌, ℕ, ◌+◌, ◌%◌}
+use Rattle.std.specs.Prelude.{◌≡◌, false, true, List, [], ◌∷◌, ◌++◌, ℕ, ◌+◌, ◌%◌}
 use Rattle.std.proofs.Common.{sym, ap, ap₂, ◌∙◌, arith}
 use Rattle.clifford.specs.Columns.{signed, are_permutation}
 use Rattle.reduction.specs.Laws.NormalForm.{Numbers}

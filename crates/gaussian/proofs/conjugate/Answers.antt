@@ -1,5 +1,5 @@
 use mathlib.Core.Path.{refl, sym, ap₂, subst, ◌∙◌}
-use mathlib.Core.List.{◌∷◌}
+use mathlib.Core.List.{[], ◌∷◌}
 use Prim.Native.Nat.{◌^◌}
 use lib.Dec.{lit<}
 use lib.IntN.{pos}

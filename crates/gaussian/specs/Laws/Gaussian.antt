@@ -1,5 +1,5 @@
 -- Gaussian integers: a solver for equations that hold in every commutative ring, the ring laws, conjugation, square norms and cancellation.
-use Rattle.std.specs.Prelude.{◌≡◌, refl, ◌≢◌, ◌⊎◌, List, ◌∷◌, ℕ, zero, suc, ◌+◌, ◌<◌, ℤ, pos, ◌+ℤ◌, ◌*ℤ◌}
+use Rattle.std.specs.Prelude.{◌≡◌, refl, ◌≢◌, ◌⊎◌, List, [], ◌∷◌, ℕ, zero, suc, ◌+◌, ◌<◌, ℤ, pos, ◌+ℤ◌, ◌*ℤ◌}
 use Rattle.std.proofs.Common.{sym, ◌∙◌, ap, ap₂, inl, inr, ⊎_elim, arith, zero-add, suc-add}
 use Rattle.matrix.specs.Laws.Integer.{no_zero_divisors, pos_nz}
 use Rattle.matrix.specs.Laws.Ring.{Exp, var, num, ◌:+◌, ◌:-◌, ◌:*◌, :neg, eval, nil, norm, ring}

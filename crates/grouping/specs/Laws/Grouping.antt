@@ -1,7 +1,7 @@
 -- Six rows of six bits that weigh and meet as those of an orthogonal operator do group as 2, 2, 2 or as 2 and 4, and one generator's pairs, or
 -- those of three, lie inside the groups (source document 001, section 4). A finite fact, by an enumeration that goes through the rows one after
 -- the other and leaves out what the rows and columns so far rule out.
-use Rattle.std.specs.Prelude.{◌≡◌, refl, Bool, true, false, not, cond, ◌&&◌, ◌||◌, List, ◌∷◌, ◌++◌, ℕ, zero, suc, ◌+◌, ◌%◌, ◌<◌, get_or, eqb}
+use Rattle.std.specs.Prelude.{◌≡◌, refl, Bool, true, false, not, cond, ◌&&◌, ◌||◌, List, [], ◌∷◌, ◌++◌, ℕ, zero, suc, ◌+◌, ◌%◌, ◌<◌, get_or, eqb}
 use Rattle.std.proofs.Common.{subst, sym, lit<}
 use Rattle.std.specs.Bool.{beq}
 use Rattle.std.proofs.Math.Dec.{T}

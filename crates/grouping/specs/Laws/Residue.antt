@@ -1,6 +1,6 @@
 -- The odd entries of an orthogonal operator (document 01, "The rule of cutting"; source document 001, section 4): how many a row and a column
 -- have, how two rows meet, how the rows group, and that some generator fits. For every exponent.
-use Rattle.std.specs.Prelude.{◌≡◌, refl, ◌⊎◌, Bool, true, false, not, cond, ◌&&◌, ◌||◌, List, ◌∷◌, ℕ, zero, suc, ◌+◌, ◌*◌, ◌%◌, ◌^◌, ◌<◌, ◌≤◌, T, eqb, ℤ, pos, nat_abs, ◌+ℤ◌, ◌*ℤ◌}
+use Rattle.std.specs.Prelude.{◌≡◌, refl, ◌⊎◌, Bool, true, false, not, cond, ◌&&◌, ◌||◌, List, [], ◌∷◌, ℕ, zero, suc, ◌+◌, ◌*◌, ◌%◌, ◌^◌, ◌<◌, ◌≤◌, T, eqb, ℤ, pos, nat_abs, ◌+ℤ◌, ◌*ℤ◌}
 use Rattle.std.proofs.Common.{sym, ap, ap₂, ◌∙◌, subst, inl, inr, zero-add, arith, eqb→eq, eq-eqb, ne_eqb, eqb-true}
 use Rattle.std.specs.Bool.{beq}
 use Rattle.std.specs.Int.Count.{ones}

@@ -1,6 +1,6 @@
 -- Signed permutations and the bytes of their columns: six bytes that are a permutation come from the data type, and the product by bytes
 -- is the product.
-use Rattle.std.specs.Prelude.{◌≡◌, refl, Bool, true, false, cond, ◌&&◌, ◌||◌, List, ◌∷◌, ℕ, zero, suc, ◌+◌, ◌-◌, ◌<◌, ◌≤◌, eqb, leb, get_or, length}
+use Rattle.std.specs.Prelude.{◌≡◌, refl, Bool, true, false, cond, ◌&&◌, ◌||◌, List, [], ◌∷◌, ℕ, zero, suc, ◌+◌, ◌-◌, ◌<◌, ◌≤◌, eqb, leb, get_or, length}
 use Rattle.std.proofs.Common.{sym, subst, arith, eqb-true, leb-true}
 use Rattle.clifford.specs.Laws.Columns.{columns_valid}
 use Rattle.clifford.specs.Columns.{row_of, negated, signed, is_column_byte, are_column_bytes, are_permutation}

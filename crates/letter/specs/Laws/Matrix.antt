@@ -1,5 +1,5 @@
 -- The matrix of a product of signed permutations, and of a word.
-use Rattle.std.specs.Prelude.{◌≡◌, refl, ◌≢◌, Bool, true, false, cond, ◌||◌, List, ◌∷◌, ℕ, ◌+◌, ◌<◌, eqb, ℤ, pos, negsuc, neg_ℤ, ◌*ℤ◌, get_or, length}
+use Rattle.std.specs.Prelude.{◌≡◌, refl, ◌≢◌, Bool, true, false, cond, ◌||◌, List, [], ◌∷◌, ℕ, ◌+◌, ◌<◌, eqb, ℤ, pos, negsuc, neg_ℤ, ◌*ℤ◌, get_or, length}
 use Rattle.std.proofs.Common.{sym, ap, ap₂, ◌∙◌, arith, ne_eqb}
 use Rattle.std.proofs.Math.IntN.{*ℤ-zero, *ℤ_comm}
 use Rattle.matrix.specs.Range.{sum, every, every_from}

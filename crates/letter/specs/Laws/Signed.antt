@@ -1,6 +1,6 @@
 -- Signed permutations as a small data type, on which finite facts can be computed: their product and its laws, their bytes, and what a
 -- word of Clifford gates multiplies to.
-use Rattle.std.specs.Prelude.{◌≡◌, refl, Bool, true, false, not, List, ◌∷◌, ◌++◌, ℕ, zero, suc, ◌+◌, get_or}
+use Rattle.std.specs.Prelude.{◌≡◌, refl, Bool, true, false, not, List, [], ◌∷◌, ◌++◌, ℕ, zero, suc, ◌+◌, get_or}
 use Rattle.std.proofs.Common.{sym, ap, ◌∙◌}
 use Rattle.clifford.specs.Columns.{row_of, is_minus}
 use Rattle.letter.specs.declared.Gate.{Gate}

@@ -1,6 +1,6 @@
 -- The word, the letters and the line feed, one after the other.
 use native.Mathlib.Omega.{arith}
-use mathlib.Core.List.{◌∷◌}
+use mathlib.Core.List.{[], ◌∷◌}
 use lib.ListN.{length-append}
 use Rattle.file.specs.Laws.Written.{appended_append}
 use Rattle.line.proofs.write_gates.Goals as goal

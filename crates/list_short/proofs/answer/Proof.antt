@@ -1,6 +1,6 @@
 -- The parts of the list, one after the other.
 use mathlib.Core.Path.{◌≡◌, sym, ap}
-use mathlib.Core.List.{◌∷◌, ◌++◌}
+use mathlib.Core.List.{[], ◌∷◌, ◌++◌}
 use native.Mathlib.Omega.{arith}
 use lib.ListN.{length-append}
 use Rattle.file.specs.Laws.Written.{appended_as, appended_length, appended_append}

@@ -1,6 +1,6 @@
 -- The invariant: the lines of the pairs of g and a number below h are in the buffer.
 use mathlib.Core.Path.{ap}
-use mathlib.Core.List.{◌∷◌}
+use mathlib.Core.List.{[], ◌∷◌}
 use Prim.Native.Nat.{◌-◌}
 use native.Mathlib.Omega.{arith}
 use Rattle.file.specs.Laws.Written.{appended_as}

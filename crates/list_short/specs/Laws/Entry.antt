@@ -1,7 +1,7 @@
 -- One sheet: the call's answer says whether it is read, and it has a line of at most ten bytes if it is, and else none.
 use Rattle.std.specs.Prelude.{◌≡◌, refl, Bool, true, false, ℕ, ◌-◌, ◌≤◌, eqb, length, drop}
 use Rattle.std.proofs.Common.{sym, ap, ◌∙◌, arith, length-drop, length-take-le, eq-eqb, ne_eqb}
-use mathlib.Core.List.{List, ◌∷◌, flat_map, append-nil}
+use mathlib.Core.List.{List, [], ◌∷◌, flat_map, append-nil}
 use Rattle.std.proofs.Math.Decide.{ℕ_discrete}
 use Rattle.file.specs.declared.Answer.{Answer}
 use Rattle.file.specs.declared.Answer.TheVariants.{Count, Refused}

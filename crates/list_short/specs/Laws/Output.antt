@@ -1,7 +1,7 @@
 -- The text, put together as the program writes it, and how long its parts are.
 use Rattle.std.specs.Prelude.{◌≡◌, refl, ℕ, ◌+◌, ◌≤◌, length}
 use Rattle.std.proofs.Common.{sym, ap, ◌∙◌, arith}
-use mathlib.Core.List.{List, ◌∷◌, ◌++◌, map, flat_map, append-nil}
+use mathlib.Core.List.{List, [], ◌∷◌, ◌++◌, map, flat_map, append-nil}
 use Rattle.matrix.specs.Range.{first_from, tabulate}
 use Rattle.matrix.specs.Matrix.{δ}
 use Rattle.clifford.specs.Columns.{column_byte}

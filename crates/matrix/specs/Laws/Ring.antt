@@ -1,7 +1,7 @@
 -- A solver for equations of ℤ that hold in every commutative ring. `ring ρ l r refl` proves `eval ρ l ≡ eval ρ r` where the two
 -- expressions have one normal form: a sorted list of monomials with coefficients other than 0, a monomial being a sorted list of
 -- variable numbers. `ring_by` proves an equation from others, each times a factor, and `times_by` does so up to a factor that cancels.
-use Rattle.std.specs.Prelude.{◌≡◌, refl, List, ◌∷◌, T, ℤ, pos, negsuc, neg_ℤ, ◌+ℤ◌, ◌-ℤ◌, ◌*ℤ◌}
+use Rattle.std.specs.Prelude.{◌≡◌, refl, List, [], ◌∷◌, T, ℤ, pos, negsuc, neg_ℤ, ◌+ℤ◌, ◌-ℤ◌, ◌*ℤ◌}
 use Rattle.std.proofs.Common.{sym, ◌∙◌, ap, ap₂, arith, eqb→eq}
 use Prim.Native.Nat.{ℕ, zero, suc, compare, Ordering}
 use Rattle.std.proofs.Math.Dec.{compare_is_eq}

@@ -1,5 +1,5 @@
 -- Tests that compute, and what they say.
-use Rattle.std.specs.Prelude.{◌≡◌, refl, Bool, true, false, ◌&&◌, ◌||◌, List, ◌∷◌, ℕ, T, eqb}
+use Rattle.std.specs.Prelude.{◌≡◌, refl, Bool, true, false, ◌&&◌, ◌||◌, List, [], ◌∷◌, ℕ, T, eqb}
 use Rattle.std.proofs.Common.{sym, ap₂, subst, eqb-true, eq-eqb}
 use Rattle.matrix.specs.List.{same_list}
 

@@ -1,6 +1,6 @@
 -- What is written is that of the answer's case.
 use mathlib.Core.Path.{sym, ap, subst, ◌∙◌}
-use mathlib.Core.List.{◌∷◌}
+use mathlib.Core.List.{[], ◌∷◌}
 use Prim.Native.Nat.{◌≤◌}
 use native.Mathlib.Omega.{arith}
 use lib.ListN.{length}

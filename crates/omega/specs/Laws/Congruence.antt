@@ -1,5 +1,5 @@
 -- Congruence modulo 17.
-use Rattle.std.specs.Prelude.{◌≡◌, refl, ◌∷◌, ℕ, suc, ◌+◌, ◌*◌, ◌-◌, ◌/◌, ◌%◌, ◌<◌, ℤ, pos, negsuc, nat_abs, ◌+ℤ◌, ◌-ℤ◌, ◌*ℤ◌}
+use Rattle.std.specs.Prelude.{◌≡◌, refl, [], ◌∷◌, ℕ, suc, ◌+◌, ◌*◌, ◌-◌, ◌/◌, ◌%◌, ◌<◌, ℤ, pos, negsuc, nat_abs, ◌+ℤ◌, ◌-ℤ◌, ◌*ℤ◌}
 use Rattle.std.proofs.Common.{sym, ap, arith}
 use Rattle.matrix.specs.Laws.Ring.{var, num, :neg, ◌:+◌, ◌:-◌, ◌:*◌, ◌:=◌, ◌of◌, ring_by}
 use Rattle.omega.specs.Modular.{remainder}

@@ -1,5 +1,5 @@
 -- The inverse of each gate times a column, entry by entry, and the letters of a list, undone one after the other.
-use Rattle.std.specs.Prelude.{◌≡◌, refl, List, ◌∷◌, map, ℕ, zero, suc, ◌+◌, ◌*◌, ◌%◌, ◌<◌}
+use Rattle.std.specs.Prelude.{◌≡◌, refl, List, [], ◌∷◌, map, ℕ, zero, suc, ◌+◌, ◌*◌, ◌%◌, ◌<◌}
 use Rattle.std.proofs.Math.Path.{sym, ap, ap₂}
 use Rattle.std.proofs.Common.{◌∙◌, add-one, arith, drop-cons}
 use Rattle.std.proofs.Math.ListN.{length, get_or, drop, length-map}

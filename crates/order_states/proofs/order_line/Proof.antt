@@ -1,6 +1,6 @@
 -- The line is that of the answer's case.
 use mathlib.Core.Path.{sym, ap, ◌∙◌}
-use mathlib.Core.List.{◌∷◌}
+use mathlib.Core.List.{[], ◌∷◌}
 use native.Mathlib.Omega.{arith}
 use Rattle.file.specs.Laws.Written.{appended_as}
 use Rattle.text.specs.Text.{order_word, refused_word}

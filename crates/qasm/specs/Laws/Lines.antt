@@ -1,7 +1,7 @@
 -- The lines of a text.
 use Rattle.std.specs.Prelude.{◌≡◌, refl, Bool, true, false, cond, ◌||◌, ◌⊎◌, ℕ, eqb}
 use Rattle.std.proofs.Common.{ap, ap₂, subst, ◌∙◌, inl, inr, arith}
-use mathlib.Core.List.{List, ◌∷◌, ◌++◌, flatten}
+use mathlib.Core.List.{List, [], ◌∷◌, ◌++◌, flatten}
 use Rattle.matrix.specs.List.{same_list}
 use Rattle.matrix.specs.Laws.Test.{same_list_lem}
 use Rattle.letter.specs.declared.Gate.{Gate}

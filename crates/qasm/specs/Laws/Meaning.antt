@@ -1,5 +1,5 @@
 -- What a text means is what its letters multiply to.
-use Rattle.std.specs.Prelude.{◌≡◌, refl, List, ◌∷◌, ◌++◌, ℕ, length, drop}
+use Rattle.std.specs.Prelude.{◌≡◌, refl, List, [], ◌∷◌, ◌++◌, ℕ, length, drop}
 use Rattle.std.proofs.Common.{ap, subst, sym, arith}
 use Rattle.matrix.specs.Operator.{Operator, times_operator, identity, SameOperator}
 use Rattle.matrix.specs.Laws.Operator.{same_operator_refl, same_operator_sym, same_operator_trans, times_same, times_assoc}

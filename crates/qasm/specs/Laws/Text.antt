@@ -1,7 +1,7 @@
 -- Lists and their texts: what is written and read is the same list, and what is read and written is the same text but for the order of qubits.
 use Rattle.std.specs.Prelude.{◌≡◌, refl, Bool, true, false, cond, ◌⊎◌, ℕ, ◌≤◌, ltb, length}
 use Rattle.std.proofs.Common.{sym, ap, ap₂, ◌∙◌, inl, inr, arith, le-ltb, ltb-false}
-use mathlib.Core.List.{List, ◌∷◌, ◌++◌, flatten, map, append_assoc, append-nil}
+use mathlib.Core.List.{List, [], ◌∷◌, ◌++◌, flatten, map, append_assoc, append-nil}
 use Rattle.std.proofs.lemmas.List.{length-map}
 use Rattle.std.proofs.Math.Seq.{append_snoc}
 use Rattle.letter.specs.declared.Gate.{Gate}

@@ -2,7 +2,7 @@
 use Rattle.std.specs.Prelude.{◌≡◌, refl, true, false, ◌⊎◌, ◌≢◌, ℕ, ◌≤◌, ◌<◌, T, length, take, drop}
 use Rattle.std.proofs.Common.{sym, subst, ◌∙◌, inl, inr, arith, take-append-drop, length-drop, drop_of_length-le, lt-ltb, le-ltb}
 use Rattle.std.proofs.Math.Path.{ap}
-use mathlib.Core.List.{List, ◌∷◌, ◌++◌, flatten, append_assoc, append-nil}
+use mathlib.Core.List.{List, [], ◌∷◌, ◌++◌, flatten, append_assoc, append-nil}
 use Rattle.matrix.specs.Laws.Test.{same_list_lem}
 use Rattle.letter.specs.declared.Gate.{Gate}
 use Rattle.letter.specs.declared.Letter.TheVariants.{Is}

@@ -1,6 +1,6 @@
 -- The line is that of the refusal that is earned.
 use mathlib.Core.Path.{sym, ap}
-use mathlib.Core.List.{◌∷◌, map}
+use mathlib.Core.List.{[], ◌∷◌, map}
 use native.Mathlib.Omega.{arith}
 use Rattle.file.specs.Laws.Written.{appended_as}
 use Rattle.letter.specs.Gate.{letter}

@@ -1,5 +1,6 @@
 -- The invariant: what is in the buffer earns what the text and all bytes that were read behind it earn.
 use mathlib.Core.Path.{◌≡◌, ap, subst}
+use mathlib.Core.List.{[]}
 use Prim.Native.Nat.{◌^◌, ◌-◌, ◌≤◌}
 use native.Mathlib.Omega.{arith}
 use lib.ListN.{length, length-take}

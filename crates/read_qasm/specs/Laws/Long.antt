@@ -2,7 +2,7 @@
 use Rattle.std.specs.Prelude.{◌≡◌, refl, true, false, ℕ, ◌-◌, ◌≤◌, ◌<◌, length, take}
 use Rattle.std.proofs.Common.{sym, subst, ◌∙◌, arith, length-take-le, lt-ltb}
 use Rattle.std.proofs.Math.Path.{ap}
-use mathlib.Core.List.{List, ◌++◌, flatten, append_assoc}
+use mathlib.Core.List.{List, [], ◌++◌, flatten, append_assoc}
 use Rattle.std.proofs.Math.ListN.{drop, length-append, length-drop}
 use Rattle.std.proofs.lemmas.List.{take-append-le, drop-append-le}
 use Rattle.matrix.specs.List.{same_list}

@@ -1,6 +1,6 @@
 -- The whole reduction of an orthogonal operator: exactly as many generators are taken as its least exponent says, a signed permutation remains,
 -- and the generators in order times it are the operator.
-use Rattle.std.specs.Prelude.{◌≡◌, refl, List, ◌∷◌, ◌++◌, ℕ, zero, suc, ◌+◌, ◌*◌, ◌<◌, ◌≤◌, ℤ, pos, ◌*ℤ◌, length, get_or, ◌<ℤ◌}
+use Rattle.std.specs.Prelude.{◌≡◌, refl, List, [], ◌∷◌, ◌++◌, ℕ, zero, suc, ◌+◌, ◌*◌, ◌<◌, ◌≤◌, ℤ, pos, ◌*ℤ◌, length, get_or, ◌<ℤ◌}
 use Rattle.std.proofs.Common.{sym, ap, ◌∙◌, subst, mul-pos, arith}
 use Rattle.matrix.specs.Integer.{Even}
 use Rattle.matrix.specs.Matrix.{Matrix, Same, scaled, entry}

@@ -1,5 +1,5 @@
 -- What a generator does to a matrix.
-use Rattle.std.specs.Prelude.{◌≡◌, refl, ◌≢◌, Bool, true, not, ◌&&◌, ◌||◌, List, ◌∷◌, ℕ, suc, ◌+◌, ◌*◌, ◌<◌, ◌≤◌, T, eqb, ltb, pos, negsuc, ◌*ℤ◌, get_or}
+use Rattle.std.specs.Prelude.{◌≡◌, refl, ◌≢◌, Bool, true, not, ◌&&◌, ◌||◌, List, [], ◌∷◌, ℕ, suc, ◌+◌, ◌*◌, ◌<◌, ◌≤◌, T, eqb, ltb, pos, negsuc, ◌*ℤ◌, get_or}
 use Rattle.std.proofs.Common.{ap, ap₂, subst, ◌∙◌, arith, eqb→eq, ltb→lt, T_not}
 use Rattle.std.proofs.Math.Path.{fun_ext}
 use Rattle.std.proofs.Math.Dec.{eqb_refl}

@@ -1,6 +1,6 @@
 -- The table's rule: every splitting of the six rows into three pairs stands in it exactly once, in the order in which document 01 prints
 -- them, which is the order of their numbers read from left to right.
-use Rattle.std.specs.Prelude.{◌≡◌, refl, Bool, true, false, not, ◌&&◌, List, ◌∷◌, map, ℕ, suc, ◌-◌, ◌<◌, ◌≤◌, T, eqb, ltb, get_or}
+use Rattle.std.specs.Prelude.{◌≡◌, refl, Bool, true, false, not, ◌&&◌, List, [], ◌∷◌, map, ℕ, suc, ◌-◌, ◌<◌, ◌≤◌, T, eqb, ltb, get_or}
 use Rattle.std.proofs.Common.{subst, ap₂, arith, eqb→eq, ltb→lt, lt→ltb}
 use Rattle.std.proofs.Math.Dec.{eqb_refl}
 use Rattle.std.proofs.Math.ListN.{get_or-map}

@@ -1,5 +1,5 @@
 -- The parts of a sheet are found in its bytes, and with its sign taken into the Clifford a sheet's operator is a normal form.
-use Rattle.std.specs.Prelude.{◌≡◌, Bool, true, false, not, cond, List, ◌∷◌, ◌++◌, ℕ, ◌+◌, ◌-◌, ◌≤◌, length, get_or, take}
+use Rattle.std.specs.Prelude.{◌≡◌, Bool, true, false, not, cond, List, [], ◌∷◌, ◌++◌, ℕ, ◌+◌, ◌-◌, ◌≤◌, length, get_or, take}
 use Rattle.std.proofs.Math.Path.{refl, ap}
 use Rattle.std.proofs.Common.{sym, ◌∙◌, append_assoc, drop_at, length-take-le}
 use native.Mathlib.Omega.{arith}

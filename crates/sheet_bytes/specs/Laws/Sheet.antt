@@ -1,6 +1,6 @@
 -- Sheets of orthogonal operators of every exponent: a sheet gives back its operator, sign included. Two operators have one sheet exactly if they
 -- stand for the same matrix, and sheets that agree before the last byte exactly if they do so up to sign.
-use Rattle.std.specs.Prelude.{◌≡◌, refl, ◌⊎◌, ◌↔◌, Bool, true, false, not, cond, List, ◌∷◌, ◌++◌, ℕ, ◌+◌, ◌-◌, ℤ, negsuc, ◌*ℤ◌, length, get_or}
+use Rattle.std.specs.Prelude.{◌≡◌, refl, ◌⊎◌, ◌↔◌, Bool, true, false, not, cond, List, [], ◌∷◌, ◌++◌, ℕ, ◌+◌, ◌-◌, ℤ, negsuc, ◌*ℤ◌, length, get_or}
 use Rattle.std.proofs.Math.Path.{sym, ap, ap₂}
 use Rattle.std.proofs.Common.{◌∙◌, subst, inl, inr, arith}
 use Rattle.matrix.specs.Matrix.{scaled, entry}

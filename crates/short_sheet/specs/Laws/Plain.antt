@@ -1,5 +1,5 @@
 -- Plain sheets: their bytes and operators, and that numbers have one exactly if cutting their product takes them.
-use Rattle.std.specs.Prelude.{◌≡◌, refl, ◌↔◌, List, ◌∷◌, ◌++◌, ℕ, ◌+◌, ◌≤◌, length, drop}
+use Rattle.std.specs.Prelude.{◌≡◌, refl, ◌↔◌, List, [], ◌∷◌, ◌++◌, ℕ, ◌+◌, ◌≤◌, length, drop}
 use Rattle.std.proofs.Common.{sym, ap, ap₂, ◌∙◌, subst, arith}
 use Rattle.matrix.specs.Range.{first_from, tabulate}
 use Rattle.matrix.specs.Matrix.{δ, entry, listed}

@@ -1,6 +1,6 @@
 -- What cutting takes from an operator: it depends on the matrix that the operator stands for, no signed permutation on the right changes it, and
 -- the product of the generators taken is cut into them again, with the identity left.
-use Rattle.std.specs.Prelude.{◌≡◌, refl, List, ◌∷◌, ℕ}
+use Rattle.std.specs.Prelude.{◌≡◌, refl, List, [], ◌∷◌, ℕ}
 use Rattle.std.proofs.Common.{sym, ◌∙◌, subst, arith}
 use Rattle.std.proofs.Math.Path.{ap}
 use Rattle.matrix.specs.Matrix.{Matrix, Same, δ, product, entry, listed}

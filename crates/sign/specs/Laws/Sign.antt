@@ -1,5 +1,5 @@
 -- The determinant of a signed permutation is 1 or −1, by the parity of its inversions and minus signs.
-use Rattle.std.specs.Prelude.{◌≡◌, refl, ◌≢◌, Bool, true, false, not, cond, ◌&&◌, List, ◌∷◌, map, ℕ, zero, suc, ◌+◌, ◌-◌, ◌%◌, ◌<◌, ◌≤◌, T, eqb, ltb, get_or, length, ◌<ℤ◌}
+use Rattle.std.specs.Prelude.{◌≡◌, refl, ◌≢◌, Bool, true, false, not, cond, ◌&&◌, List, [], ◌∷◌, map, ℕ, zero, suc, ◌+◌, ◌-◌, ◌%◌, ◌<◌, ◌≤◌, T, eqb, ltb, get_or, length, ◌<ℤ◌}
 use Rattle.std.proofs.Common.{sym, ap, ap₂, ◌∙◌, subst, add-zero, add-suc, arith, eqb→eq, ltb→lt, nltb→le}
 use Rattle.std.proofs.Math.Decide.{ℕ_discrete}
 use lib.IntN.{ℤ, pos, negsuc, pow, ◌*ℤ◌, *ℤ-zero, pos-ne-negsuc}

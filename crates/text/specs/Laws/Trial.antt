@@ -1,5 +1,5 @@
 -- The example of what `cut` writes: document 01's, with the first and the last byte of document 02, P4 and P2, and the third line of P3.
-use Rattle.std.specs.Prelude.{◌≡◌, refl, ◌∷◌, ◌++◌}
+use Rattle.std.specs.Prelude.{◌≡◌, refl, [], ◌∷◌, ◌++◌}
 use Rattle.text.specs.Text.{decimal, spaced, count_line, sheet_line, loose_line}
 
 -- count 2

@@ -2,6 +2,7 @@ use mathlib.Core.Path.{◌∙◌}
 use native.Mathlib.Omega.{arith}
 use Rattle.matrix.specs.Laws.Rows.{row_more, row_all}
 use Rattle.matrix.specs.Laws.Machine.{kept}
+use Rattle.times.specs.Times.{pair_entry}
 use borrow.Author.Rules.{rules}
 use Rattle.times.proofs.pair_row.Goals as goal
 

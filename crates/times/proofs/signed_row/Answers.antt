@@ -3,6 +3,7 @@ use native.Mathlib.Omega.{arith}
 use Rattle.matrix.specs.Laws.Rows.{row_more, row_all}
 use Rattle.matrix.specs.Laws.Machine.{kept}
 use Rattle.clifford.specs.Laws.Columns.{permutation_sound}
+use Rattle.times.specs.Times.{signed_entry}
 use borrow.Author.Rules.{rules}
 use Rattle.times.proofs.signed_row.Goals as goal
 

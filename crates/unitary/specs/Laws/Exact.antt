@@ -1,7 +1,7 @@
 -- Document 02, P5, for every exponent: the six-by-six form of a unitary, and which lists give the unitary.
 use Rattle.std.specs.Prelude.{◌≡◌, Bool, true, false, cond, ℕ, zero, suc, ◌+◌, ◌*◌, ◌<◌, ◌≤◌, eqb, pos, negsuc}
 use Rattle.std.proofs.Common.{ap, ◌∙◌, inl, inr, arith}
-use mathlib.Core.List.{List}
+use mathlib.Core.List.{List, []}
 use Rattle.matrix.specs.Integer.{equals}
 use Rattle.matrix.specs.Matrix.{δ, scaled}
 use Rattle.matrix.specs.Operator.{Operator, operator, times_operator, SameUpToSign, Orthogonal, Proper, LeastExponent}

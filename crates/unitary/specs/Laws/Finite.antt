@@ -1,6 +1,6 @@
 -- The finite facts: the basis is orthogonal and real for the pairing of complementary places; the plain gates are unitary, and their
 -- six-by-six forms are document 01's images.
-use Rattle.std.specs.Prelude.{refl, List, ◌∷◌, ℕ, ◌+◌, ◌^◌, ℤ, pos, negsuc, ◌*ℤ◌, get_or}
+use Rattle.std.specs.Prelude.{refl, List, [], ◌∷◌, ℕ, ◌+◌, ◌^◌, ℤ, pos, negsuc, ◌*ℤ◌, get_or}
 use Rattle.matrix.specs.Range.{every_from}
 use Rattle.matrix.specs.Matrix.{δ}
 use Rattle.residue.specs.Generator.{table, place, generator}

@@ -1,5 +1,5 @@
 -- The six-by-six form multiplies, and it is unitary and real up to a phase.
-use Rattle.std.specs.Prelude.{◌≡◌, refl, ◌∷◌, pos}
+use Rattle.std.specs.Prelude.{◌≡◌, refl, [], ◌∷◌, pos}
 use Rattle.std.proofs.Common.{sym, ◌∙◌, ap, ap₂}
 use Rattle.matrix.specs.Laws.Ring.{var, num, ◌:*◌}
 use Rattle.gaussian.specs.declared.Gaussian.{Gaussian}

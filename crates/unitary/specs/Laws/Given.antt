@@ -1,5 +1,5 @@
 -- A list that multiplies to a six-by-six form of a unitary gives the unitary, up to a power of ω.
-use Rattle.std.specs.Prelude.{◌≡◌, refl, ◌≢◌, List, ◌∷◌, ℕ, zero, suc, ◌+◌, ◌*◌, ◌/◌, ◌%◌, ◌^◌, ◌<◌, pos, ◌*ℤ◌}
+use Rattle.std.specs.Prelude.{◌≡◌, refl, ◌≢◌, List, [], ◌∷◌, ℕ, zero, suc, ◌+◌, ◌*◌, ◌/◌, ◌%◌, ◌^◌, ◌<◌, pos, ◌*ℤ◌}
 use Rattle.std.proofs.Common.{sym, ◌∙◌, ap, inl, arith}
 use Rattle.matrix.specs.Operator.{SameOperator}
 use Rattle.matrix.specs.Laws.Integer.{*ℤ-unit-l}

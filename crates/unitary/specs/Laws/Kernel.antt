@@ -1,5 +1,5 @@
 -- A matrix whose minors at places 1 to 4 are those of a multiple of the identity is diagonal; with the minor at place 0 it is such a multiple.
-use Rattle.std.specs.Prelude.{◌≡◌, refl, ◌≢◌, ◌∷◌, ℕ, zero, suc, ◌<◌, ◌≤◌, pos}
+use Rattle.std.specs.Prelude.{◌≡◌, refl, ◌≢◌, [], ◌∷◌, ℕ, zero, suc, ◌<◌, ◌≤◌, pos}
 use Rattle.std.proofs.Math.Path.{sym}
 use Rattle.std.proofs.Common.{◌∙◌, ap, ap₂, ⊎_elim, arith}
 use Rattle.std.proofs.Math.Decide.{ℕ_discrete}

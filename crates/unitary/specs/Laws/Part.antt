@@ -1,5 +1,5 @@
 -- The form by the real or the imaginary parts alone, over root two to the power 2 k + 2 or 2 k + 1: so its exponent is at most 2 k + 2.
-use Rattle.std.specs.Prelude.{refl, ◌∷◌, ℕ, ◌+◌, ◌*◌, ◌*ℤ◌}
+use Rattle.std.specs.Prelude.{refl, [], ◌∷◌, ℕ, ◌+◌, ◌*◌, ◌*ℤ◌}
 use Rattle.std.proofs.Common.{arith}
 use Rattle.std.proofs.Math.IntN.{pos, negsuc}
 use Rattle.matrix.specs.Operator.{Operator, operator, SameOperator, negative}

@@ -1,5 +1,5 @@
 -- Products of unitaries are unitary; so the matrix of a list of plain gates is, by its rows and by its columns.
-use Rattle.std.specs.Prelude.{◌≡◌, List, ◌∷◌, ℕ}
+use Rattle.std.specs.Prelude.{◌≡◌, List, [], ◌∷◌, ℕ}
 use Rattle.std.proofs.Common.{sym, ◌∙◌, ap, ap₂}
 use Rattle.matrix.specs.Matrix.{δ}
 use Rattle.letter.specs.declared.Gate.{Gate}

@@ -1,5 +1,5 @@
 -- Of every unitary some power of ω makes the six-by-six form real, and then it is an orthogonal operator.
-use Rattle.std.specs.Prelude.{◌≡◌, refl, ◌≢◌, ◌∷◌, ℕ, zero, suc, ◌+◌, ◌*◌, ◌/◌, ◌%◌, ◌^◌, ◌<◌, ℤ, pos, negsuc, ◌*ℤ◌}
+use Rattle.std.specs.Prelude.{◌≡◌, refl, ◌≢◌, [], ◌∷◌, ℕ, zero, suc, ◌+◌, ◌*◌, ◌/◌, ◌%◌, ◌^◌, ◌<◌, ℤ, pos, negsuc, ◌*ℤ◌}
 use Rattle.std.proofs.Math.Path.{sym, ap, ap₂}
 use Rattle.std.proofs.Common.{◌∙◌, subst, arith, zero-add, pow-add, pow_pos}
 use Rattle.std.proofs.Math.IntN.{neg_ℤ}

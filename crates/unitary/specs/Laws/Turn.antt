@@ -1,6 +1,6 @@
 -- The six-by-six form of a unitary is one operator up to sign, and it is, up to sign, the product of the images of every list that gives the
 -- unitary up to a power of ω.
-use Rattle.std.specs.Prelude.{◌≡◌, refl, ◌≢◌, List, ◌∷◌, negsuc, ◌*ℤ◌}
+use Rattle.std.specs.Prelude.{◌≡◌, refl, ◌≢◌, List, [], ◌∷◌, negsuc, ◌*ℤ◌}
 use Rattle.std.proofs.Common.{sym, ◌∙◌, inl, inr, zero-add, pow-add, pow_pos}
 use Rattle.std.proofs.Math.Path.{ap, subst}
 use Rattle.std.proofs.Math.Logic.{⊎_elim}

@@ -1,4 +1,5 @@
 -- Each way out is a case of the promise.
+use mathlib.Core.List.{[]}
 use native.Mathlib.Omega.{arith}
 use Rattle.unitary_gates.specs.Laws.Promise.{computed_orthogonal, held, unitary_refused, is_unitary_lem, is_narrow, is_small_lem, unitary_no_room, unitary_done}
 use Rattle.unitary_gates.proofs.unitary_to_gates.Goals as goal

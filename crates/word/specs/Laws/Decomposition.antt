@@ -1,5 +1,5 @@
 -- Every proper signed permutation is what its word multiplies to, times a sign.
-use Rattle.std.specs.Prelude.{◌≡◌, refl, Bool, true, false, not, List, ◌++◌, map, ℕ, ◌+◌, ◌%◌, ◌<◌, eqb, get_or}
+use Rattle.std.specs.Prelude.{◌≡◌, refl, Bool, true, false, not, List, [], ◌++◌, map, ℕ, ◌+◌, ◌%◌, ◌<◌, eqb, get_or}
 use Rattle.std.proofs.Common.{sym, ap, ap₂, subst, ◌∙◌, arith}
 use Rattle.clifford.specs.Columns.{different, inversions, is_even}
 use Rattle.letter.specs.declared.Gate.{Gate}

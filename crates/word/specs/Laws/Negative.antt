@@ -1,5 +1,5 @@
 -- The word of the negative of a Clifford has the same letters and the other sign.
-use Rattle.std.specs.Prelude.{◌≡◌, refl, Bool, true, false, not, cond, List, ◌++◌, ℕ, zero, suc, ◌+◌, ◌%◌, eqb, get_or}
+use Rattle.std.specs.Prelude.{◌≡◌, refl, Bool, true, false, not, cond, List, [], ◌++◌, ℕ, zero, suc, ◌+◌, ◌%◌, eqb, get_or}
 use Rattle.std.proofs.Common.{sym, ◌∙◌, arith, eqb-true}
 use Rattle.std.proofs.Math.Path.{ap, ap₂, fun_ext}
 use Rattle.clifford.specs.Columns.{signed, are_permutation}

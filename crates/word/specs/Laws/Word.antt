@@ -1,5 +1,5 @@
 -- The word of a Clifford: what it multiplies to, how long it is, and which letters it has.
-use Rattle.std.specs.Prelude.{◌≡◌, refl, Bool, true, false, cond, ◌&&◌, List, ◌∷◌, ◌++◌, map, ℕ, zero, suc, ◌+◌, ◌*◌, ◌%◌, ◌≤◌, eqb, leb, get_or, length}
+use Rattle.std.specs.Prelude.{◌≡◌, refl, Bool, true, false, cond, ◌&&◌, List, [], ◌∷◌, ◌++◌, map, ℕ, zero, suc, ◌+◌, ◌*◌, ◌%◌, ◌≤◌, eqb, leb, get_or, length}
 use Rattle.std.proofs.Common.{sym, ap, ap₂, subst, ◌∙◌, arith, length-append, eqb-true, leb-true}
 use Rattle.matrix.specs.Matrix.{Same, scaled}
 use Rattle.clifford.specs.Columns.{columns_matrix, are_column_bytes, sign_of, signed, different, inversions, is_even, are_permutation}

@@ -1,4 +1,5 @@
 -- The table is the definition's.
+use mathlib.Core.List.{[]}
 use lib.ListN.{get_or-map}
 use Rattle.word.specs.Word.{part_words}
 use Rattle.word_code.specs.Code.{encoded}

@@ -1,5 +1,5 @@
 -- The tables are those of the definition, on either qubit.
-use mathlib.Core.List.{map}
+use mathlib.Core.List.{[], map}
 use lib.ListN.{get_or-map}
 use Rattle.word.specs.Word.{rotation_words, on_second}
 use Rattle.word_code.specs.Code.{encoded}

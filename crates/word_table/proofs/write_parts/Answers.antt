@@ -1,6 +1,6 @@
 -- The second part stands right after the first; either has at most seven letters.
 use mathlib.Core.Path.{ap₂}
-use mathlib.Core.List.{List, ◌++◌}
+use mathlib.Core.List.{List, [], ◌++◌}
 use Prim.Native.Nat.{ℕ, ◌+◌, ◌≤◌}
 use native.Mathlib.Omega.{arith}
 use lib.ListN.{length, get_or}

@@ -1,7 +1,7 @@
 -- The second rotation stands right after the first; either has at most six letters.
 use mathlib.Core.Bool.{true, false}
 use mathlib.Core.Path.{ap₂}
-use mathlib.Core.List.{List, ◌++◌}
+use mathlib.Core.List.{List, [], ◌++◌}
 use Prim.Native.Nat.{ℕ, ◌+◌, ◌≤◌}
 use native.Mathlib.Omega.{arith}
 use lib.ListN.{length, get_or}
