@@ -7,6 +7,7 @@ ghost use Rattle.file.specs.File.{Appended};
 ghost use Rattle.cut.specs.Output.{cut_text};
 
 use operator::Cuts;
+use std::io::Result;
 
 // The text for a file, at the front of `out`.
 fn answer(file: &[u8], out: &mut [u8; 512]) -> usize
@@ -26,10 +27,10 @@ fn answer(file: &[u8], out: &mut [u8; 512]) -> usize
 }
 
 // A buffer larger than a file, so that whatever is longer is seen to be.
-fn main() {
+fn main(rt: HostRuntime) -> Result<()> {
     let mut file = io::buffer();
-    let length = io::read_full(0, &mut file);
+    let length = streams::read_full(&mut rt.stdin(), &mut file)?;
     let mut text = [0u8; 512];
     let end = answer(&file[..length], &mut text);
-    io::write_all(1, &text[..end]);
+    rt.write_all(&text[..end])
 }

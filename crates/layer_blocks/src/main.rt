@@ -8,6 +8,7 @@ ghost use Rattle.file.specs.File.{Appended};
 ghost use Rattle.layer_blocks.specs.Output.{layer_text};
 
 use file::Answer;
+use std::io::Result;
 
 // The text for a program, at the front of `out`.
 // Wrong, and refused: the layers over their number; a refusal one byte late.
@@ -26,10 +27,10 @@ fn answer(blocks: &[u8], out: &mut [u8; 512]) -> usize
 }
 
 // A buffer larger than a program, so that whatever is longer is seen to be.
-fn main() {
+fn main(rt: HostRuntime) -> Result<()> {
     let mut blocks = io::buffer();
-    let length = io::read_full(0, &mut blocks);
+    let length = streams::read_full(&mut rt.stdin(), &mut blocks)?;
     let mut text = [0u8; 512];
     let end = answer(&blocks[..length], &mut text);
-    io::write_all(1, &text[..end]);
+    rt.write_all(&text[..end])
 }

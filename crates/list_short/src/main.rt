@@ -13,6 +13,7 @@ ghost use Rattle.short_sheet.specs.Short.{if_read, plain_sheets};
 ghost use Rattle.list_short.specs.Output.{lines_of, pairs_of, short_text};
 
 use file::Answer;
+use std::io::Result;
 
 // Whether these bytes are read as a sheet.
 fn is_read(sheet: &[u8]) -> bool
@@ -92,8 +93,8 @@ fn answer(out: &mut [u8; 4096]) -> usize
     write_twos(out, third)
 }
 
-fn main() {
+fn main(rt: HostRuntime) -> Result<()> {
     let mut text = [0u8; 4096];
     let end = answer(&mut text);
-    io::write_all(1, &text[..end]);
+    rt.write_all(&text[..end])
 }

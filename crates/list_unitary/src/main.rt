@@ -5,6 +5,7 @@
 ghost use Rattle.io.specs.Counts.{IsPrefixLen};
 ghost use Rattle.list_unitary.specs.Output.{Printed};
 
+use std::io::Result;
 use unitary_gates::Synthesis;
 
 // The text for the bytes, at the front of `out`.
@@ -29,10 +30,10 @@ fn answer(bytes: &[u8], out: &mut [u8; 16384]) -> usize
 }
 
 // A buffer larger than a unitary, so that whatever is longer is seen to be.
-fn main() {
+fn main(rt: HostRuntime) -> Result<()> {
     let mut bytes = io::buffer();
-    let length = io::read_full(0, &mut bytes);
+    let length = streams::read_full(&mut rt.stdin(), &mut bytes)?;
     let mut text = [0u8; 16384];
     let end = answer(&bytes[..length], &mut text);
-    io::write_all(1, &text[..end]);
+    rt.write_all(&text[..end])
 }

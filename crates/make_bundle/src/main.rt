@@ -8,6 +8,7 @@ ghost use Rattle.file.specs.File.{Appended};
 ghost use Rattle.make_bundle.specs.Output.{output_of};
 
 use file::Wrote;
+use std::io::Result;
 
 // One byte more than 513 first bytes can say, 199 each: what follows decides nothing (`long_sheets`).
 const LONGER: usize = 199 * 513 + 1;
@@ -29,10 +30,10 @@ fn buffer() -> [u8; LONGER]
     [0; LONGER]
 }
 
-fn main() {
+fn main(rt: HostRuntime) -> Result<()> {
     let mut sheets = buffer();
-    let length = io::read_full(0, &mut sheets);
+    let length = streams::read_full(&mut rt.stdin(), &mut sheets)?;
     let mut output = [0u8; bundle_write::LONGEST_BUNDLE];
     let end = answer(&sheets[..length], &mut output);
-    io::write_all(1, &output[..end]);
+    rt.write_all(&output[..end])
 }

@@ -9,6 +9,7 @@ ghost use Rattle.text_read.specs.Text.{without_line_feed};
 ghost use Rattle.multiply_gates.specs.Output.{output_of};
 
 use file::Answer;
+use std::io::Result;
 
 // The bytes for a gate list, at the front of `out`.
 fn answer(input: &[u8], out: &mut [u8; 256]) -> usize
@@ -23,10 +24,10 @@ fn answer(input: &[u8], out: &mut [u8; 256]) -> usize
 }
 
 // A buffer larger than the longest list, so that whatever is longer is seen to be.
-fn main() {
+fn main(rt: HostRuntime) -> Result<()> {
     let mut input = io::large_buffer();
-    let length = io::read_full(0, &mut input);
+    let length = streams::read_full(&mut rt.stdin(), &mut input)?;
     let mut output = [0u8; 256];
     let end = answer(&input[..length], &mut output);
-    io::write_all(1, &output[..end]);
+    rt.write_all(&output[..end])
 }

@@ -7,6 +7,7 @@ ghost use Rattle.file.specs.File.{Appended};
 ghost use Rattle.multiply_sheet.specs.Output.{output_of};
 
 use file::Answer;
+use std::io::Result;
 
 // The bytes for a sheet, at the front of `out`.
 fn answer(bytes: &[u8], out: &mut [u8; 256]) -> usize
@@ -20,10 +21,10 @@ fn answer(bytes: &[u8], out: &mut [u8; 256]) -> usize
 }
 
 // A buffer larger than a sheet, so that whatever is longer is seen to be.
-fn main() {
+fn main(rt: HostRuntime) -> Result<()> {
     let mut bytes = io::buffer();
-    let length = io::read_full(0, &mut bytes);
+    let length = streams::read_full(&mut rt.stdin(), &mut bytes)?;
     let mut output = [0u8; 256];
     let end = answer(&bytes[..length], &mut output);
-    io::write_all(1, &output[..end]);
+    rt.write_all(&output[..end])
 }

@@ -9,6 +9,8 @@ ghost use Rattle.text_read.specs.Text.{number_of};
 ghost use Rattle.order_states.specs.Output.{answer_line, order_text};
 
 use file::Answer;
+use std::env::{Env, FillError};
+use std::io::Result;
 use text_read::Number;
 
 // The line for two numbers, at the front of `out`.
@@ -37,16 +39,17 @@ fn answer(count: &[u8], spoilage: &[u8], out: &mut [u8; 32]) -> usize
     }
 }
 
-fn main() {
+// An argument that is missing or longer than its buffer has no bytes here, and is no number.
+fn main(rt: HostRuntime) -> Result<()> {
     let mut count = io::buffer();
-    let n = os::arg(1, &mut count);
+    let n = rt.arg(1, &mut count).unwrap_or(0);
     let mut spoilage = io::buffer();
-    let m = os::arg(2, &mut spoilage);
+    let m = rt.arg(2, &mut spoilage).unwrap_or(0);
+    let is_last = matches!(rt.arg(3, &mut []), Err(FillError::NotPresent));
     let mut line = [0u8; 32];
     let end = answer(&count[..n], &spoilage[..m], &mut line);
-    if os::arg_count() != 3 || end == 0 {
-        io::write_all(libc::STDERR_FILENO, b"usage: order_states T P\n");
-        return;
+    if !is_last || end == 0 {
+        return rt.eprintln("usage: order_states T P");
     }
-    io::write_all(libc::STDOUT_FILENO, &line[..end]);
+    rt.write_all(&line[..end])
 }

@@ -2,7 +2,7 @@
 
 #![tactic(auto)]
 
-ghost use Rattle.std.specs.Prelude.{◌++◌, map, ◌≡◌, ◌+◌, ◌-◌, ◌≤◌, length, take, drop};
+ghost use Rattle.std.specs.Prelude.{◌++◌, map, ◌≡◌, ◌+◌, ◌-◌, ◌≤◌, IfOk, length, take, drop};
 ghost use Rattle.io.specs.Counts.{IsPrefixLen};
 ghost use Rattle.file.specs.File.{Appended};
 ghost use Rattle.letter.specs.Gate.{letter};
@@ -11,6 +11,7 @@ ghost use Rattle.qasm.specs.Output.{output_of};
 ghost use Rattle.read_qasm.specs.Long.{longer, StartOf, LeftOf, Earned, last_refusal, OutputBehind};
 
 use file::Wrote;
+use std::io::{Read, Result};
 
 // A text of so many bytes has more than 16,384 statements, or a line that is none.
 const LONGER: usize = qasm::LONGEST_TEXT + qasm::LONGEST_STATEMENT;
@@ -99,13 +100,13 @@ fn window() -> [u8; WINDOW]
 
 // Reads on behind the first bytes of a long text, and returns the refusal that it earns. Statements are dropped; as many bytes as any statement
 // has that begin with none earn 23, whatever follows (`waiting_stuck`).
-fn read_on(text: &[u8]) -> u8
+fn read_on<R: Read>(input: &mut R, text: &[u8]) -> Result<u8>
     requires { length text.now ≡ longer }
-    ensures { Earned text.now result }
+    ensures { IfOk result (λ n. Earned text.now n) }
 {
     let start = start_of(text);
     if start == 0 {
-        return 23;
+        return Ok(23);
     }
     let mut buffer = window();
     let mut more = io::large_buffer();
@@ -113,25 +114,29 @@ fn read_on(text: &[u8]) -> u8
     let mut turns = 0u64;
     while turns < MOST_TURNS {
         if qasm::LONGEST_STATEMENT <= left {
-            return 23;
+            return Ok(23);
         }
-        let n = io::read_full(0, &mut more);
+        let n = streams::read_full(input, &mut more)?;
         if n == 0 {
-            return last_refusal(left);
+            return Ok(last_refusal(left));
         }
         left = take_in(&more[..n], &mut buffer, left);
         turns += 1;
     }
-    last_refusal(left)
+    Ok(last_refusal(left))
 }
 
 // The bytes for a text that goes on behind so many, at the front of `out`.
-fn answer_long(text: &[u8], out: &mut [u8; gate::LARGEST_LIST]) -> usize
+fn answer_long<R: Read>(
+    input: &mut R,
+    text: &[u8],
+    out: &mut [u8; gate::LARGEST_LIST],
+) -> Result<usize>
     requires { length text.now ≡ longer }
-    ensures { OutputBehind text.now out.old out.new result × IsPrefixLen result out.new }
+    ensures { IfOk result (λ n. OutputBehind text.now out.old out.new n × IsPrefixLen n out.new) }
 {
-    let refusal = read_on(text);
-    line::write_refused(refusal, out, 0)
+    let refusal = read_on(input, text)?;
+    Ok(line::write_refused(refusal, out, 0))
 }
 
 fn text_buffer() -> [u8; LONGER]
@@ -140,15 +145,15 @@ fn text_buffer() -> [u8; LONGER]
     [0; LONGER]
 }
 
-fn main() {
+fn main(rt: HostRuntime) -> Result<()> {
+    let mut input = rt.stdin();
     let mut text = text_buffer();
     let mut output = [0u8; gate::LARGEST_LIST];
-    let length = io::read_full(0, &mut text);
+    let length = streams::read_full(&mut input, &mut text)?;
     if length < LONGER {
         let end = answer(&text[..length], &mut output);
-        io::write_all(1, &output[..end]);
-        return;
+        return rt.write_all(&output[..end]);
     }
-    let end = answer_long(&text, &mut output);
-    io::write_all(1, &output[..end]);
+    let end = answer_long(&mut input, &text, &mut output)?;
+    rt.write_all(&output[..end])
 }

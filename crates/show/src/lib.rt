@@ -4,6 +4,7 @@
 
 use file::Answer;
 use operator::Cuts;
+use std::io::Result;
 
 // A byte that stands in no sheet and in no gate list.
 pub const UNWRITTEN: u8 = 255;
@@ -20,73 +21,69 @@ pub fn front(buffer: &[u8]) -> &[u8] {
     buffer
 }
 
-pub fn show(text: &[u8]) {
-    io::write_all(1, text);
+pub fn show(rt: &impl Print, text: &[u8]) -> Result<()> {
+    rt.write_all(text)
 }
 
-pub fn show_number(word: &[u8], n: u8) {
-    show(word);
-    io::print_decimal(1, n as u64);
+pub fn show_number(rt: &impl Print, word: &[u8], n: u8) -> Result<()> {
+    show(rt, word)?;
+    rt.print(n)
 }
 
 // Bytes in decimal after a word.
-pub fn show_bytes(word: &[u8], bytes: &[u8]) {
-    show(word);
-    let mut n = 0usize;
-    while n < bytes.len() {
-        show_number(b" ", bytes[n]);
-        n += 1;
+pub fn show_bytes(rt: &impl Print, word: &[u8], bytes: &[u8]) -> Result<()> {
+    show(rt, word)?;
+    for b in bytes {
+        show_number(rt, b" ", *b)?;
     }
+    Ok(())
 }
 
 // A number after a word, or the refusal's.
-pub fn show_answer(word: &[u8], answer: Answer) {
+pub fn show_answer(rt: &impl Print, word: &[u8], answer: Answer) -> Result<()> {
     match answer {
-        Answer::Count(n) => show_number(word, n),
-        Answer::Refused(n) => show_number(b": refused ", n),
+        Answer::Count(n) => show_number(rt, word, n),
+        Answer::Refused(n) => show_number(rt, b": refused ", n),
     }
 }
 
 // The same, and the end of the line.
-pub fn end_line(word: &[u8], answer: Answer) {
-    show_answer(word, answer);
-    show(b"\n");
+pub fn end_line(rt: &impl Print, word: &[u8], answer: Answer) -> Result<()> {
+    show_answer(rt, word, answer)?;
+    show(rt, b"\n")
 }
 
 // The count, the sheet and L of an operator file, or its refusal.
-pub fn show_cut(file: &[u8]) {
+pub fn show_cut(rt: &impl Print, file: &[u8]) -> Result<()> {
     let mut sheet = [UNWRITTEN; sheet_bytes::LONGEST];
     let answer = operator::operator_to_sheet(file, &mut sheet);
     match answer {
         Cuts::Taken { count, loose } => {
-            show_number(b": count ", count);
-            show_bytes(b", sheet", front(&sheet));
-            show_number(b", loose ", loose);
+            show_number(rt, b": count ", count)?;
+            show_bytes(rt, b", sheet", front(&sheet))?;
+            show_number(rt, b", loose ", loose)?;
         }
-        Cuts::Refused(n) => show_number(b": refused ", n),
+        Cuts::Refused(n) => show_number(rt, b": refused ", n)?,
     }
-    show(b"\n");
+    show(rt, b"\n")
 }
 
 // An operator file, by its count, sheet and L, or by its refusal.
-pub fn cut_case(name: &[u8], file: &[u8]) {
-    show(name);
-    show_cut(file);
+pub fn cut_case(rt: &impl Print, name: &[u8], file: &[u8]) -> Result<()> {
+    show(rt, name)?;
+    show_cut(rt, file)
 }
 
 // A sheet, by the count of its operator.
-pub fn sheet_case(sheet: &[u8]) {
+pub fn sheet_case(rt: &impl Print, sheet: &[u8]) -> Result<()> {
     let mut file = [0u8; file::LONG_LENGTH];
     let answer = sheet::sheet_to_operator(sheet, &mut file);
-    show_bytes(b"sheet", sheet);
-    end_line(b": count ", answer);
+    show_bytes(rt, b"sheet", sheet)?;
+    end_line(rt, b": count ", answer)
 }
 
 // A count and a spoilage, by the states to order.
-pub fn order_case(t: u64, p: u64) {
-    show(b"t ");
-    io::print_decimal(1, t);
-    show(b", p ");
-    io::print_decimal(1, p);
-    end_line(b": order ", order::states_to_order(t, p));
+pub fn order_case(rt: &impl Print, t: u64, p: u64) -> Result<()> {
+    print!(rt; "t {t}, p {p}")?;
+    end_line(rt, b": order ", order::states_to_order(t, p))
 }

@@ -3,30 +3,29 @@
 #![tactic(auto)]
 
 use file::{Answer, Wrote};
+use std::io::Result;
 
 // A bundle and the number of a sheet, by the sheet.
-pub fn bundle_case(bundle: &[u8], n: u64) {
-    show::show_bytes(b"bundle", bundle);
-    show::show(b", number ");
-    io::print_decimal(1, n);
+pub fn bundle_case(rt: &impl Print, bundle: &[u8], n: u64) -> Result<()> {
+    show::show_bytes(rt, b"bundle", bundle)?;
+    print!(rt; ", number {n}")?;
     let refusal = bundle::bundle_refusal(bundle, n);
     if refusal != 0 {
-        show::end_line(b"", Answer::Refused(refusal));
-        return;
+        return show::end_line(rt, b"", Answer::Refused(refusal));
     }
-    show::show_bytes(b": sheet", bundle::bundle_sheet(bundle, n));
-    show::show(b"\n");
+    show::show_bytes(rt, b": sheet", bundle::bundle_sheet(bundle, n))?;
+    show::show(rt, b"\n")
 }
 
 // Sheets end to end, by their bundle.
-pub fn sheets_case(sheets: &[u8]) {
+pub fn sheets_case(rt: &impl Print, sheets: &[u8]) -> Result<()> {
     let mut bundle = [show::UNWRITTEN; 64];
-    show::show_bytes(b"sheets", sheets);
+    show::show_bytes(rt, b"sheets", sheets)?;
     match bundle_write::sheets_to_bundle(sheets, &mut bundle) {
         Wrote::Bytes(_) => {
-            show::show_bytes(b": bundle", show::front(&bundle));
-            show::show(b"\n");
+            show::show_bytes(rt, b": bundle", show::front(&bundle))?;
+            show::show(rt, b"\n")
         }
-        Wrote::Refused(n) => show::end_line(b"", Answer::Refused(n)),
+        Wrote::Refused(n) => show::end_line(rt, b"", Answer::Refused(n)),
     }
 }

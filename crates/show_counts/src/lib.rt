@@ -3,6 +3,7 @@
 #![tactic(auto)]
 
 use file::Answer;
+use std::io::Result;
 
 // Lists that are parted into two factors.
 const CHC: [u8; 3] = *b"CHC";
@@ -24,30 +25,35 @@ fn count_of(letters: &[u8]) -> Answer {
 }
 
 // Two lists and the list of both, by their counts.
-fn product_case(first: &[u8], second: &[u8], both: &[u8]) {
-    show::show(first);
-    show::show(b" times ");
-    show::show(second);
-    show::show_answer(b": counts ", count_of(first));
-    show::show_answer(b" and ", count_of(second));
-    show::end_line(b", product ", count_of(both));
+fn product_case(rt: &impl Print, first: &[u8], second: &[u8], both: &[u8]) -> Result<()> {
+    show::show(rt, first)?;
+    show::show(rt, b" times ")?;
+    show::show(rt, second)?;
+    show::show_answer(rt, b": counts ", count_of(first))?;
+    show::show_answer(rt, b" and ", count_of(second))?;
+    show::end_line(rt, b", product ", count_of(both))
 }
 
 // A product with the sum of the counts, one that is lower by two, and one by the whole sum: the second list undoes the first.
-fn bounds() {
-    product_case(&CHC[..2], &CHC[2..], &CHC);
-    product_case(&CHCC[..3], &CHCC[3..], &CHCC);
-    product_case(&UNDONE[..3], &UNDONE[3..], &UNDONE);
+fn bounds(rt: &impl Print) -> Result<()> {
+    product_case(rt, &CHC[..2], &CHC[2..], &CHC)?;
+    product_case(rt, &CHCC[..3], &CHCC[3..], &CHCC)?;
+    product_case(rt, &UNDONE[..3], &UNDONE[3..], &UNDONE)
 }
 
 // A Clifford on either side, and -1.
-fn cliffords() {
-    product_case(&CLIFFORD_RIGHT[..3], &CLIFFORD_RIGHT[3..], &CLIFFORD_RIGHT);
-    product_case(&CLIFFORD_LEFT[..3], &CLIFFORD_LEFT[3..], &CLIFFORD_LEFT);
-    product_case(&NEGATIVE[..3], &NEGATIVE[3..], &NEGATIVE);
+fn cliffords(rt: &impl Print) -> Result<()> {
+    product_case(
+        rt,
+        &CLIFFORD_RIGHT[..3],
+        &CLIFFORD_RIGHT[3..],
+        &CLIFFORD_RIGHT,
+    )?;
+    product_case(rt, &CLIFFORD_LEFT[..3], &CLIFFORD_LEFT[3..], &CLIFFORD_LEFT)?;
+    product_case(rt, &NEGATIVE[..3], &NEGATIVE[3..], &NEGATIVE)
 }
 
-pub fn cases() {
-    bounds();
-    cliffords();
+pub fn cases(rt: &impl Print) -> Result<()> {
+    bounds(rt)?;
+    cliffords(rt)
 }

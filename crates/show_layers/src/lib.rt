@@ -3,31 +3,32 @@
 #![tactic(auto)]
 
 use file::Answer;
+use std::io::Result;
 
 // The answer for a program, where the buffer holds bytes that are no layers.
-fn show_layers(blocks: &[u8], out: &mut [u8]) {
+fn show_layers(rt: &impl Print, blocks: &[u8], out: &mut [u8]) -> Result<()> {
     match layer::blocks_to_layers(blocks, out) {
         Answer::Count(n) => {
-            show::show_number(b": layers ", n);
-            show::show_bytes(b", layer", show::front(out));
-            show::show(b"\n");
+            show::show_number(rt, b": layers ", n)?;
+            show::show_bytes(rt, b", layer", show::front(out))?;
+            show::show(rt, b"\n")
         }
-        Answer::Refused(n) => show::end_line(b"", Answer::Refused(n)),
+        Answer::Refused(n) => show::end_line(rt, b"", Answer::Refused(n)),
     }
 }
 
 // A program, with room for its blocks.
-fn blocks_case(blocks: &[u8]) {
+fn blocks_case(rt: &impl Print, blocks: &[u8]) -> Result<()> {
     let mut out = [show::UNWRITTEN; block::MOST_BLOCKS];
-    show::show_bytes(b"blocks", blocks);
-    show_layers(blocks, &mut out);
+    show::show_bytes(rt, b"blocks", blocks)?;
+    show_layers(rt, blocks, &mut out)
 }
 
 // The same with a buffer of two bytes.
-fn two_bytes_case(blocks: &[u8]) {
+fn two_bytes_case(rt: &impl Print, blocks: &[u8]) -> Result<()> {
     let mut out = [show::UNWRITTEN; 2];
-    show::show_bytes(b"two bytes for blocks", blocks);
-    show_layers(blocks, &mut out);
+    show::show_bytes(rt, b"two bytes for blocks", blocks)?;
+    show_layers(rt, blocks, &mut out)
 }
 
 // 64 blocks on qubits 0 and 1.
@@ -42,35 +43,35 @@ fn same_blocks() -> [u8; 128] {
 }
 
 // No block, one, a chain there and back, blocks that share nothing, and some of either.
-fn few() {
-    blocks_case(&[]);
-    blocks_case(&[0, 1]);
-    blocks_case(&[0, 1, 1, 2, 2, 3, 3, 4]);
-    blocks_case(&[3, 4, 2, 3, 1, 2, 0, 1]);
-    blocks_case(&[0, 1, 2, 3, 31, 30]);
-    blocks_case(&[0, 1, 2, 3, 1, 2, 0, 1, 4, 5]);
+fn few(rt: &impl Print) -> Result<()> {
+    blocks_case(rt, &[])?;
+    blocks_case(rt, &[0, 1])?;
+    blocks_case(rt, &[0, 1, 1, 2, 2, 3, 3, 4])?;
+    blocks_case(rt, &[3, 4, 2, 3, 1, 2, 0, 1])?;
+    blocks_case(rt, &[0, 1, 2, 3, 31, 30])?;
+    blocks_case(rt, &[0, 1, 2, 3, 1, 2, 0, 1, 4, 5])
 }
 
 // As many blocks as a program may have, all on one pair of qubits; one block more.
-fn many() {
+fn many(rt: &impl Print) -> Result<()> {
     let blocks = same_blocks();
-    blocks_case(&blocks);
-    blocks_case(&[1u8; 130]);
+    blocks_case(rt, &blocks)?;
+    blocks_case(rt, &[1u8; 130])
 }
 
 // Each refusal, and which of two comes first.
-fn refused() {
-    blocks_case(&[0, 1, 2]);
-    blocks_case(&[0, 32]);
-    blocks_case(&[0, 1, 5, 5]);
-    blocks_case(&[5, 5, 32]);
-    two_bytes_case(&[0, 1, 2, 3]);
-    two_bytes_case(&[0, 1, 2, 3, 4, 5]);
-    two_bytes_case(&[0, 1, 2, 3, 5, 5]);
+fn refused(rt: &impl Print) -> Result<()> {
+    blocks_case(rt, &[0, 1, 2])?;
+    blocks_case(rt, &[0, 32])?;
+    blocks_case(rt, &[0, 1, 5, 5])?;
+    blocks_case(rt, &[5, 5, 32])?;
+    two_bytes_case(rt, &[0, 1, 2, 3])?;
+    two_bytes_case(rt, &[0, 1, 2, 3, 4, 5])?;
+    two_bytes_case(rt, &[0, 1, 2, 3, 5, 5])
 }
 
-pub fn cases() {
-    few();
-    many();
-    refused();
+pub fn cases(rt: &impl Print) -> Result<()> {
+    few(rt)?;
+    many(rt)?;
+    refused(rt)
 }

@@ -3,6 +3,7 @@
 #![tactic(auto)]
 
 use file::Answer;
+use std::io::Result;
 use unitary_gates::Synthesis;
 
 // The unitaries of P5's cases, a row a line after the exponent: four bytes an entry, the real part and the imaginary part.
@@ -55,9 +56,9 @@ const CHC: [u8; 65] = *b"\x01\
 \0\0\0\0\0\0\x01\0\0\0\0\0\x01\0\0\0";
 
 // A unitary, by its gate list.
-fn unitary_case(name: &[u8], bytes: &[u8]) {
+fn unitary_case(rt: &impl Print, name: &[u8], bytes: &[u8]) -> Result<()> {
     let mut gates = [show::UNWRITTEN; gate::GATES_BUFFER];
-    show::show(name);
+    show::show(rt, name)?;
     match unitary_gates::unitary_to_gates(bytes, &mut gates) {
         Synthesis::Letters {
             count,
@@ -65,45 +66,45 @@ fn unitary_case(name: &[u8], bytes: &[u8]) {
             loose,
             power,
         } => {
-            show::show_number(b": count ", count);
-            show::show_number(b", loose ", loose);
-            show::show_number(b", omega ", power);
-            show::show(b", gates ");
-            show::show(show::front(&gates));
-            show::show(b"\n");
+            show::show_number(rt, b": count ", count)?;
+            show::show_number(rt, b", loose ", loose)?;
+            show::show_number(rt, b", omega ", power)?;
+            show::show(rt, b", gates ")?;
+            show::show(rt, show::front(&gates))?;
+            show::show(rt, b"\n")
         }
-        Synthesis::Refused(n) => show::end_line(b"", Answer::Refused(n)),
+        Synthesis::Refused(n) => show::end_line(rt, b"", Answer::Refused(n)),
     }
 }
 
-fn cliffords() {
-    unitary_case(b"unitary I", &IDENTITY);
-    unitary_case(b"unitary omega I", &OMEGA);
-    unitary_case(b"unitary H, first qubit", &H_FIRST);
-    unitary_case(b"unitary H, second qubit", &H_SECOND);
-    unitary_case(b"unitary CZ", &CZ);
-    unitary_case(b"unitary SWAP", &SWAP);
+fn cliffords(rt: &impl Print) -> Result<()> {
+    unitary_case(rt, b"unitary I", &IDENTITY)?;
+    unitary_case(rt, b"unitary omega I", &OMEGA)?;
+    unitary_case(rt, b"unitary H, first qubit", &H_FIRST)?;
+    unitary_case(rt, b"unitary H, second qubit", &H_SECOND)?;
+    unitary_case(rt, b"unitary CZ", &CZ)?;
+    unitary_case(rt, b"unitary SWAP", &SWAP)
 }
 
 // The identity with another exponent and another first entry.
-fn changed_case(name: &[u8], k: u8, first: u8) {
+fn changed_case(rt: &impl Print, name: &[u8], k: u8, first: u8) -> Result<()> {
     let mut bytes = IDENTITY;
     bytes[0] = k;
     bytes[1] = first;
-    unitary_case(name, &bytes);
+    unitary_case(rt, name, &bytes)
 }
 
-fn refused() {
-    unitary_case(b"64 bytes", &IDENTITY[..64]);
-    changed_case(b"unitary I, k 30", 30, 1);
-    changed_case(b"unitary I, k 1", 1, 1);
-    changed_case(b"unitary I, first entry 2", 0, 2);
-    changed_case(b"unitary I, first entry 2, k 2", 2, 2);
+fn refused(rt: &impl Print) -> Result<()> {
+    unitary_case(rt, b"64 bytes", &IDENTITY[..64])?;
+    changed_case(rt, b"unitary I, k 30", 30, 1)?;
+    changed_case(rt, b"unitary I, k 1", 1, 1)?;
+    changed_case(rt, b"unitary I, first entry 2", 0, 2)?;
+    changed_case(rt, b"unitary I, first entry 2, k 2", 2, 2)
 }
 
-pub fn cases() {
-    cliffords();
-    unitary_case(b"unitary CS", &CS);
-    unitary_case(b"unitary CHC", &CHC);
-    refused();
+pub fn cases(rt: &impl Print) -> Result<()> {
+    cliffords(rt)?;
+    unitary_case(rt, b"unitary CS", &CS)?;
+    unitary_case(rt, b"unitary CHC", &CHC)?;
+    refused(rt)
 }

@@ -1,2 +1,3 @@
 -- Theorems.
 pub mod Last
+pub mod Reading

@@ -2,12 +2,15 @@
 
 #![tactic(auto)]
 
-ghost use Rattle.std.specs.Prelude.{[], ◌∷◌, ◌++◌, ◌≡◌, ◌≤◌, length};
+ghost use Rattle.std.specs.Prelude.{[], ◌∷◌, ◌++◌, ◌≡◌, ◌^◌, ◌<◌, ◌≤◌, IfOk, OnOk, IfSome, length, take};
 ghost use Rattle.io.specs.Counts.{IsPrefixLen};
 ghost use Rattle.file.specs.File.{Appended};
 ghost use Rattle.text_read.specs.Text.{number_of};
 ghost use Rattle.take_sheet.specs.Output.{sheet_output, output_of, last_two};
+ghost use Rattle.take_sheet.specs.Input.{KeptOf};
 
+use std::env::{Env, FillError};
+use std::io::{Read, Result};
 use text_read::Number;
 
 // One byte more than the longest bundle has: the largest offset, a part of 199 bytes there, and the trailer.
@@ -62,32 +65,35 @@ fn push_all(more: &[u8], bytes: &mut [u8])
 }
 
 // Reads on to the end of the input. What is longer than any bundle is refused by its last two bytes alone (`last_refused`).
-fn read_on(bytes: &mut [u8])
+fn read_on<R: Read>(input: &mut R, bytes: &mut [u8]) -> Result<()>
     requires { 2 ≤ length bytes.old }
+    ensures { OnOk result (IfSome (R.remaining input.old) (λ more. length more < 2 ^ 64 → last_two bytes.new ≡ last_two (bytes.old ++ more))) }
 {
     let mut more = io::large_buffer();
     let mut turns = 0u64;
     while turns < MOST_TURNS {
-        let n = io::read_full(0, &mut more);
+        let n = streams::read_full(input, &mut more)?;
         if n == 0 {
-            return;
+            return Ok(());
         }
         push_all(&more[..n], bytes);
         turns += 1;
     }
+    Ok(())
 }
 
-// Reads the input, and answers how many bytes of the buffer are its.
-fn read_input(bytes: &mut [u8]) -> usize
+// Reads the input, and answers how many bytes of the buffer are kept of it.
+fn read_input<R: Read>(input: &mut R, bytes: &mut [u8]) -> Result<usize>
     requires { 2 ≤ length bytes.old }
-    ensures { IsPrefixLen result bytes.new }
+    ensures within { IfOk result (λ n. IsPrefixLen n bytes.new) }
+    ensures kept { IfOk result (λ n. IfSome (R.remaining input.old) (λ all. length all < 2 ^ 64 → KeptOf (length bytes.old) all (take n bytes.new))) }
 {
-    let n = io::read_full(0, bytes);
+    let n = streams::read_full(input, bytes)?;
     if n < bytes.len() {
-        return n;
+        return Ok(n);
     }
-    read_on(bytes);
-    bytes.len()
+    read_on(input, bytes)?;
+    Ok(bytes.len())
 }
 
 // A buffer longer than any bundle.
@@ -97,24 +103,24 @@ fn buffer() -> [u8; LONGER]
     [0; LONGER]
 }
 
-fn usage() {
-    io::write_all(libc::STDERR_FILENO, b"usage: take_sheet N\n");
+fn usage(rt: &impl Eprint) -> Result<()> {
+    rt.eprintln("usage: take_sheet N")
 }
 
-fn main() {
-    if os::arg_count() != 2 {
-        usage();
-        return;
-    }
+// An argument that is missing or longer than its buffer has no bytes here, and is no number.
+fn main(rt: HostRuntime) -> Result<()> {
     let mut number = io::buffer();
-    let m = os::arg(1, &mut number);
+    let m = rt.arg(1, &mut number).unwrap_or(0);
+    let is_last = matches!(rt.arg(2, &mut []), Err(FillError::NotPresent));
+    if !is_last || m == 0 {
+        return usage(&rt);
+    }
     let mut bundle = buffer();
-    let length = read_input(&mut bundle);
+    let length = read_input(&mut rt.stdin(), &mut bundle)?;
     let mut output = [0u8; 256];
     let end = answer(&bundle[..length], &number[..m], &mut output);
     if end == 0 {
-        usage();
-        return;
+        return usage(&rt);
     }
-    io::write_all(libc::STDOUT_FILENO, &output[..end]);
+    rt.write_all(&output[..end])
 }

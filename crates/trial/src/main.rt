@@ -3,6 +3,8 @@
 
 #![tactic(auto)]
 
+use std::io::Result;
+
 // An entry of −1, in the 16 bits of an operator file.
 const MINUS_ONE: u16 = 65535;
 
@@ -40,127 +42,127 @@ fn diagonal(k: u8, first: u16, x: u16) -> [u8; file::SHORT_LENGTH] {
 }
 
 // The operator file of x times the identity, with another first entry, cut.
-fn cut_case(name: &[u8], k: u8, first: u16, x: u16) {
-    show::cut_case(name, &diagonal(k, first, x));
+fn cut_case(rt: &impl Print, name: &[u8], k: u8, first: u16, x: u16) -> Result<()> {
+    show::cut_case(rt, name, &diagonal(k, first, x))
 }
 
-fn operators() {
-    cut_case(b"I, k 0", 0, 1, 1);
-    cut_case(b"2 I, k 2", 2, 2, 2);
-    show::cut_case(b"the six rows, k 2", &EXAMPLE);
+fn operators(rt: &impl Print) -> Result<()> {
+    cut_case(rt, b"I, k 0", 0, 1, 1)?;
+    cut_case(rt, b"2 I, k 2", 2, 2, 2)?;
+    show::cut_case(rt, b"the six rows, k 2", &EXAMPLE)
 }
 
-fn limits() {
-    cut_case(b"16384 I, k 28", 28, 16384, 16384);
-    cut_case(b"16384 I, k 29", 29, 16384, 16384);
-    cut_case(b"entry 3, k 2", 2, 3, 2);
+fn limits(rt: &impl Print) -> Result<()> {
+    cut_case(rt, b"16384 I, k 28", 28, 16384, 16384)?;
+    cut_case(rt, b"16384 I, k 29", 29, 16384, 16384)?;
+    cut_case(rt, b"entry 3, k 2", 2, 3, 2)
 }
 
-fn refused() {
-    cut_case(b"zero, k 0", 0, 0, 0);
-    cut_case(b"I, k 1", 1, 1, 1);
-    cut_case(b"I with -1, k 0", 0, MINUS_ONE, 1);
+fn refused(rt: &impl Print) -> Result<()> {
+    cut_case(rt, b"zero, k 0", 0, 0, 0)?;
+    cut_case(rt, b"I, k 1", 1, 1, 1)?;
+    cut_case(rt, b"I with -1, k 0", 0, MINUS_ONE, 1)
 }
 
-fn gate_lists() {
-    show_gates::gates_case(b"C");
-    show_gates::gates_case(b"CC");
-    show_gates::gates_case(b"Z");
-    show_gates::gates_case(b"CHC");
-    show_gates::gates_case(b"ZZ");
+fn gate_lists(rt: &impl Print) -> Result<()> {
+    show_gates::gates_case(rt, b"C")?;
+    show_gates::gates_case(rt, b"CC")?;
+    show_gates::gates_case(rt, b"Z")?;
+    show_gates::gates_case(rt, b"CHC")?;
+    show_gates::gates_case(rt, b"ZZ")
 }
 
-fn names() {
-    show_gates::same_case(b"HH", b": I", &diagonal(0, 1, 1));
-    show_gates::same_case(b"ZZ", b": -I", &diagonal(0, MINUS_ONE, MINUS_ONE));
-    show_gates::same_case(b"CCCCCCCC", b": I", &diagonal(0, 1, 1));
+fn names(rt: &impl Print) -> Result<()> {
+    show_gates::same_case(rt, b"HH", b": I", &diagonal(0, 1, 1))?;
+    show_gates::same_case(rt, b"ZZ", b": -I", &diagonal(0, MINUS_ONE, MINUS_ONE))?;
+    show_gates::same_case(rt, b"CCCCCCCC", b": I", &diagonal(0, 1, 1))
 }
 
-fn listed() {
-    show_gates::list_case(b"gates of I", &diagonal(0, 1, 1));
-    show_gates::list_case(b"gates of -I", &diagonal(0, MINUS_ONE, MINUS_ONE));
-    show_gates::list_case(b"gates of the six rows", &EXAMPLE);
+fn listed(rt: &impl Print) -> Result<()> {
+    show_gates::list_case(rt, b"gates of I", &diagonal(0, 1, 1))?;
+    show_gates::list_case(rt, b"gates of -I", &diagonal(0, MINUS_ONE, MINUS_ONE))?;
+    show_gates::list_case(rt, b"gates of the six rows", &EXAMPLE)
 }
 
-fn sheets() {
-    show::sheet_case(&[66, 3, 13, 3, 130, 1, 4, 5, 6, 0]);
-    show::sheet_case(&[64, 1, 2, 3, 4, 5, 6, 1]);
-    show::sheet_case(&[66, 13, 3, 1, 2, 3, 4, 5, 6, 0]);
-    show::sheet_case(&[66, 3, 3, 1, 2, 3, 4, 5, 6, 0]);
+fn sheets(rt: &impl Print) -> Result<()> {
+    show::sheet_case(rt, &[66, 3, 13, 3, 130, 1, 4, 5, 6, 0])?;
+    show::sheet_case(rt, &[64, 1, 2, 3, 4, 5, 6, 1])?;
+    show::sheet_case(rt, &[66, 13, 3, 1, 2, 3, 4, 5, 6, 0])?;
+    show::sheet_case(rt, &[66, 3, 3, 1, 2, 3, 4, 5, 6, 0])
 }
 
-fn signs() {
-    show::sheet_case(&[64, 1, 2, 3, 4, 5, 6, 2]);
-    show::sheet_case(&[66, 3, 3, 1, 2, 3, 4, 5, 6, 2]);
-    show::sheet_case(&[64, 129, 130, 131, 132, 133, 134, 0]);
-    show::sheet_case(&[64, 129, 2, 3, 4, 5, 6, 0]);
+fn signs(rt: &impl Print) -> Result<()> {
+    show::sheet_case(rt, &[64, 1, 2, 3, 4, 5, 6, 2])?;
+    show::sheet_case(rt, &[66, 3, 3, 1, 2, 3, 4, 5, 6, 2])?;
+    show::sheet_case(rt, &[64, 129, 130, 131, 132, 133, 134, 0])?;
+    show::sheet_case(rt, &[64, 129, 2, 3, 4, 5, 6, 0])
 }
 
-fn counts() {
-    show::sheet_case(&[3, 13, 3, 130, 1, 4, 5, 6, 0]);
-    show::sheet_case(&[3, 13, 3, 130, 1, 4, 5, 6]);
-    show::sheet_case(&[65, 1, 2, 3, 4, 5, 6, 0]);
-    show::sheet_case(&[65, 0, 2, 3, 4, 5, 6, 0]);
-    show::sheet_case(&[63, 1, 2, 3, 4, 5, 6]);
-    show::sheet_case(&[1, 2, 3, 4, 5, 6, 0]);
+fn counts(rt: &impl Print) -> Result<()> {
+    show::sheet_case(rt, &[3, 13, 3, 130, 1, 4, 5, 6, 0])?;
+    show::sheet_case(rt, &[3, 13, 3, 130, 1, 4, 5, 6])?;
+    show::sheet_case(rt, &[65, 1, 2, 3, 4, 5, 6, 0])?;
+    show::sheet_case(rt, &[65, 0, 2, 3, 4, 5, 6, 0])?;
+    show::sheet_case(rt, &[63, 1, 2, 3, 4, 5, 6])?;
+    show::sheet_case(rt, &[1, 2, 3, 4, 5, 6, 0])
 }
 
-fn orders() {
-    show::order_case(10, 50);
-    show::order_case(10, 150);
-    show::order_case(28, 50);
-    show::order_case(0, 1000);
-    show::order_case(28, 1000);
-    show::order_case(1, 500);
-    show::order_case(3, 500);
+fn orders(rt: &impl Print) -> Result<()> {
+    show::order_case(rt, 10, 50)?;
+    show::order_case(rt, 10, 150)?;
+    show::order_case(rt, 28, 50)?;
+    show::order_case(rt, 0, 1000)?;
+    show::order_case(rt, 28, 1000)?;
+    show::order_case(rt, 1, 500)?;
+    show::order_case(rt, 3, 500)
 }
 
-fn bundles() {
-    show_bundle::bundle_case(&BUNDLE, 0);
-    show_bundle::bundle_case(&BUNDLE, 2);
-    show_bundle::bundle_case(&BUNDLE, 3);
-    show_bundle::bundle_case(&[0, 0], 0);
+fn bundles(rt: &impl Print) -> Result<()> {
+    show_bundle::bundle_case(rt, &BUNDLE, 0)?;
+    show_bundle::bundle_case(rt, &BUNDLE, 2)?;
+    show_bundle::bundle_case(rt, &BUNDLE, 3)?;
+    show_bundle::bundle_case(rt, &[0, 0], 0)
 }
 
-fn no_bundles() {
-    show_bundle::bundle_case(&[], 0);
-    show_bundle::bundle_case(&[0, 1, 0], 0);
-    show_bundle::bundle_case(&[63, 1, 2, 3, 4, 5, 6, 0, 0, 1, 0], 0);
-    show_bundle::bundle_case(&[64, 1, 2, 3, 4, 5, 6, 0, 1, 0, 1, 0], 1);
+fn no_bundles(rt: &impl Print) -> Result<()> {
+    show_bundle::bundle_case(rt, &[], 0)?;
+    show_bundle::bundle_case(rt, &[0, 1, 0], 0)?;
+    show_bundle::bundle_case(rt, &[63, 1, 2, 3, 4, 5, 6, 0, 0, 1, 0], 0)?;
+    show_bundle::bundle_case(rt, &[64, 1, 2, 3, 4, 5, 6, 0, 1, 0, 1, 0], 1)
 }
 
-fn stored() {
-    show_bundle::sheets_case(&[]);
-    show_bundle::sheets_case(&BUNDLE[..27]);
-    show_bundle::sheets_case(&[64, 1, 2, 3, 4, 5, 6]);
+fn stored(rt: &impl Print) -> Result<()> {
+    show_bundle::sheets_case(rt, &[])?;
+    show_bundle::sheets_case(rt, &BUNDLE[..27])?;
+    show_bundle::sheets_case(rt, &[64, 1, 2, 3, 4, 5, 6])
 }
 
 // Pairs of numbers that are listed, the second one higher and lower; pairs that are not, of different and of equal numbers; and what is no number.
-fn pairs() {
-    show::sheet_case(&[66, 1, 2, 1, 2, 3, 4, 5, 6, 0]);
-    show::sheet_case(&[66, 7, 2, 1, 2, 3, 4, 5, 6, 0]);
-    show::sheet_case(&[66, 2, 1, 1, 2, 3, 4, 5, 6, 0]);
-    show::sheet_case(&[66, 1, 1, 1, 2, 3, 4, 5, 6, 0]);
-    show::sheet_case(&[66, 1, 16, 1, 2, 3, 4, 5, 6, 0]);
+fn pairs(rt: &impl Print) -> Result<()> {
+    show::sheet_case(rt, &[66, 1, 2, 1, 2, 3, 4, 5, 6, 0])?;
+    show::sheet_case(rt, &[66, 7, 2, 1, 2, 3, 4, 5, 6, 0])?;
+    show::sheet_case(rt, &[66, 2, 1, 1, 2, 3, 4, 5, 6, 0])?;
+    show::sheet_case(rt, &[66, 1, 1, 1, 2, 3, 4, 5, 6, 0])?;
+    show::sheet_case(rt, &[66, 1, 16, 1, 2, 3, 4, 5, 6, 0])
 }
 
-fn main() {
-    operators();
-    limits();
-    refused();
-    gate_lists();
-    names();
-    listed();
-    sheets();
-    signs();
-    counts();
-    orders();
-    bundles();
-    no_bundles();
-    stored();
-    show_qasm::cases();
-    show_unitary::cases();
-    show_long::cases();
-    show_counts::cases();
-    pairs();
+fn main(rt: HostRuntime) -> Result<()> {
+    operators(&rt)?;
+    limits(&rt)?;
+    refused(&rt)?;
+    gate_lists(&rt)?;
+    names(&rt)?;
+    listed(&rt)?;
+    sheets(&rt)?;
+    signs(&rt)?;
+    counts(&rt)?;
+    orders(&rt)?;
+    bundles(&rt)?;
+    no_bundles(&rt)?;
+    stored(&rt)?;
+    show_qasm::cases(&rt)?;
+    show_unitary::cases(&rt)?;
+    show_long::cases(&rt)?;
+    show_counts::cases(&rt)?;
+    pairs(&rt)
 }

@@ -10,6 +10,7 @@ ghost use Rattle.qasm.specs.Reading.{read_letters};
 ghost use Rattle.qasm.specs.Output.{output_of};
 
 use file::Wrote;
+use std::io::Result;
 
 // The bytes for a gate list, at the front of `out`.
 fn answer(input: &[u8], out: &mut [u8; qasm::LONGEST_TEXT]) -> usize
@@ -24,10 +25,10 @@ fn answer(input: &[u8], out: &mut [u8; qasm::LONGEST_TEXT]) -> usize
 }
 
 // A buffer larger than the longest list, so that whatever is longer is seen to be.
-fn main() {
+fn main(rt: HostRuntime) -> Result<()> {
     let mut input = io::large_buffer();
-    let length = io::read_full(0, &mut input);
+    let length = streams::read_full(&mut rt.stdin(), &mut input)?;
     let mut output = [0u8; qasm::LONGEST_TEXT];
     let end = answer(&input[..length], &mut output);
-    io::write_all(1, &output[..end]);
+    rt.write_all(&output[..end])
 }

@@ -1,6 +1,6 @@
 -- The last two bytes, where there are as many, and one more behind them.
 use Rattle.std.specs.Prelude.{◌≡◌, cond, List, [], ◌∷◌, ◌++◌, ℕ, suc, ◌+◌, ◌*◌, ◌-◌, ◌≤◌, ◌<◌, ltb, length, get_or, set, take, drop}
-use Rattle.std.proofs.Common.{sym, ap, ap₂, ◌∙◌, append_assoc, add-one, arith, length-append, length-set, take-suc, drop-cons, get_or-append-add, get_or-set_same, get_or-set_other}
+use Rattle.std.proofs.Common.{sym, ap, ap₂, ◌∙◌, append_assoc, append-nil, add-one, arith, length-append, length-set, take-suc, drop-cons, get_or-append-add, get_or-set_same, get_or-set_other}
 use Rattle.std.proofs.Math.ListN.{get_or-append}
 use Rattle.std.proofs.Math.Seq.{drop-length}
 use Rattle.bundle.specs.Bundle.{most_sheets, sheet_count, bundle_refusal}
@@ -31,6 +31,16 @@ last_more : (b c : List ℕ) (x : ℕ) → 2 ≤ length b → 2 ≤ length c →
 last_more b c x h k e =
     let f = ap (λ l. get_or l 1 0) (sym (two b h) ∙ e ∙ two c k) in
     two_more b x h ∙ ap (λ y. y ∷ x ∷ []) f ∙ sym (two_more c x k)
+
+-- and so with any bytes behind them
+pub last_append : (b c more : List ℕ) → 2 ≤ length b → 2 ≤ length c → last_two b ≡ last_two c → last_two (b ++ more) ≡ last_two (c ++ more)
+last_append b c [] h k e = ap last_two (append-nil b) ∙ e ∙ sym (ap last_two (append-nil c))
+last_append b c (x ∷ more) h k e =
+    let m = length-append b (x ∷ []) in
+    let n = length-append c (x ∷ []) in
+    sym (ap last_two (append_assoc b (x ∷ []) more))
+    ∙ last_append (b ++ x ∷ []) (c ++ x ∷ []) more (omega arith) (omega arith) (last_more b c x h k e)
+    ∙ ap last_two (append_assoc c (x ∷ []) more)
 
 -- what the two stores leave
 pub last_pushed : (b : List ℕ) (x : ℕ) → 2 ≤ length b

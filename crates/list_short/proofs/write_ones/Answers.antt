@@ -1,0 +1,25 @@
+use mathlib.Core.Path.{ap}
+use mathlib.Core.List.{[], ◌∷◌}
+use Prim.Native.Nat.{◌-◌}
+use native.Mathlib.Omega.{arith}
+use Rattle.file.specs.Laws.Written.{appended_as}
+use Rattle.short_sheet.specs.Short.{if_read}
+use Rattle.list_short.specs.Output.{lines_of}
+use Rattle.list_short.specs.Laws.Loop.{Begun, begun_none, begun_room, begun_next, begun_all}
+use Rattle.list_short.specs.Laws.Output.{plain_is, one_of, ones_done, one_most}
+use borrow.Author.Rules.{rules}
+use Rattle.list_short.proofs.write_ones.Goals as goal
+
+pub loop-g-init : goal.loop-g-init
+loop-g-init c = begun_none one_of c.args.at c.args.out.now
+
+pub write_entry-next-requires : goal.write_entry-next-requires
+write_entry-next-requires c =
+    (omega arith, omega arith, begun_room 10 one_most c.requires (omega arith) c.loop-g.invariant)
+
+pub loop-g-preserved : goal.loop-g-preserved
+loop-g-preserved c =
+    begun_next 10 one_most c.requires (omega arith) c.loop-g.invariant (appended_as (ap (λ s. lines_of (if_read s)) (plain_is (c.loop-g.g ∷ []))) c.write_entry-next.ensures)
+
+pub returns : goal.returns
+returns c = appended_as ones_done (begun_all c.loop-g.invariant (omega arith))

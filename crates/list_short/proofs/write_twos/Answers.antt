@@ -1,0 +1,22 @@
+use Prim.Native.Nat.{◌-◌}
+use native.Mathlib.Omega.{arith}
+use Rattle.file.specs.Laws.Written.{appended_as}
+use Rattle.list_short.specs.Output.{pairs_of}
+use Rattle.list_short.specs.Laws.Loop.{Begun, begun_none, begun_room, begun_next, begun_all}
+use Rattle.list_short.specs.Laws.Output.{twos_done, pairs_most}
+use borrow.Author.Rules.{rules}
+use Rattle.list_short.proofs.write_twos.Goals as goal
+
+pub loop-g-init : goal.loop-g-init
+loop-g-init c = begun_none pairs_of c.args.at c.args.out.now
+
+pub write_pairs-next-requires : goal.write_pairs-next-requires
+write_pairs-next-requires c =
+    begun_room 150 pairs_most c.requires (omega arith) c.loop-g.invariant
+
+pub loop-g-preserved : goal.loop-g-preserved
+loop-g-preserved c =
+    begun_next 150 pairs_most c.requires (omega arith) c.loop-g.invariant c.write_pairs-next.ensures
+
+pub returns : goal.returns
+returns c = appended_as twos_done (begun_all c.loop-g.invariant (omega arith))

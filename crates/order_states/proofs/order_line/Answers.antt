@@ -1,0 +1,12 @@
+-- The line is that of the answer's case.
+use mathlib.Core.List.{[], ◌∷◌}
+use native.Mathlib.Omega.{arith}
+use Rattle.text.specs.Text.{order_word, refused_word}
+use Rattle.text.specs.Laws.Text.{line_length}
+use Rattle.order_states.proofs.order_line.Goals as goal
+
+pub write_order-requires : goal.write_order-requires
+write_order-requires c = let l = line_length order_word (c.in-Count.states ∷ []) in omega arith
+
+pub write_refused-requires : goal.write_refused-requires
+write_refused-requires c = let l = line_length refused_word (c.in-Refused.refusal ∷ []) in omega arith

@@ -1,0 +1,42 @@
+-- What is written is that of the answer's case.
+use mathlib.Core.Path.{◌≡◌, sym, ap, ◌∙◌}
+use mathlib.Core.List.{List, [], ◌∷◌, map}
+use Prim.Native.Nat.{ℕ, ◌≤◌}
+use native.Mathlib.Omega.{arith}
+use lib.ListN.{length}
+use Rattle.file.specs.Laws.Written.{appended_as}
+use Rattle.letter.specs.declared.Gate.{Gate}
+use Rattle.letter.specs.Gate.{letter}
+use Rattle.gate.specs.Reading.{gates, largest_list}
+use Rattle.text.specs.Text.{refused_word}
+use Rattle.text.specs.Laws.Text.{line_length, within}
+use Rattle.qasm.specs.Reading.{read_qasm}
+use Rattle.qasm.specs.Laws.Refusals.{letters_small}
+use Rattle.qasm.specs.Laws.Output.{wrote, refused}
+use Rattle.read_qasm.proofs.answer.Goals as goal
+
+-- a buffer for the longest list has room for each list that is read
+room : (bs old : List ℕ) → largest_list ≤ length old → (w : List Gate) → read_qasm bs ≡ gates w → length (map letter w) ≤ length old
+room bs old h w e = let t = letters_small bs w e in omega arith
+
+pub write_refused-requires : goal.write_refused-requires
+write_refused-requires c =
+    let p = c.qasm_to_gates-answer.ensures in
+    let (e, f) = refused (map letter) _ _ (read_qasm c.args.text.now) (room c.args.text.now c.args.out.now (omega arith)) _ (sym c.in-Refused.is ∙ p.answer) p.buffer in
+    let l = line_length refused_word (c.in-Refused.refusal ∷ []) in
+    let m = ap length f in
+    omega arith
+
+pub returns-in-Bytes : goal.returns-in-Bytes
+returns-in-Bytes c =
+    let p = c.qasm_to_gates-answer.ensures in
+    let (n, a) = wrote (map letter) _ _ (read_qasm c.args.text.now) (room c.args.text.now c.args.out.now (omega arith)) _ (sym c.in-Bytes.is ∙ p.answer) p.buffer in
+    (a, within a n)
+
+pub returns-in-Refused : goal.returns-in-Refused
+returns-in-Refused c =
+    let p = c.qasm_to_gates-answer.ensures in
+    let (e, f) = refused (map letter) _ _ (read_qasm c.args.text.now) (room c.args.text.now c.args.out.now (omega arith)) _ (sym c.in-Refused.is ∙ p.answer) p.buffer in
+    let l = line_length refused_word (c.in-Refused.refusal ∷ []) in
+    let a = rw f at c.write_refused.ensures in
+    (appended_as e a, within a (omega arith))
