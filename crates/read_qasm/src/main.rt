@@ -2,7 +2,7 @@
 
 #![tactic(auto)]
 
-ghost use Rattle.std.specs.Prelude.{◌++◌, map, ◌≡◌, ◌+◌, ◌-◌, ◌≤◌, IfOk, length, take, drop};
+ghost use Rattle.std.specs.Prelude.{◌++◌, map, ◌≡◌, ◌+◌, ◌-◌, ◌≤◌, IfOk, IfErr, length, take, drop};
 ghost use Rattle.io.specs.Counts.{IsPrefixLen};
 ghost use Rattle.file.specs.File.{Appended};
 ghost use Rattle.letter.specs.Gate.{letter};
@@ -133,7 +133,8 @@ fn answer_long<R: Read>(
     out: &mut [u8; gate::LARGEST_LIST],
 ) -> Result<usize>
     requires { length text.now ≡ longer }
-    ensures { IfOk result (λ n. OutputBehind text.now out.old out.new n × IsPrefixLen n out.new) }
+    ensures ok { IfOk result (λ n. OutputBehind text.now out.old out.new n × IsPrefixLen n out.new) }
+    ensures err { IfErr result (λ _. out.new ≡ out.old) }
 {
     let refusal = read_on(input, text)?;
     Ok(line::write_refused(refusal, out, 0))
