@@ -2,7 +2,7 @@
 
 #![tactic(auto)]
 
-ghost use Rattle.std.specs.Prelude.{[], ◌∷◌, ◌++◌, ◌≡◌, ◌^◌, ◌<◌, ◌≤◌, IfOk, OnOk, IfSome, length, take};
+ghost use Rattle.std.specs.Prelude.{[], ◌∷◌, ◌++◌, ◌≡◌, ◌^◌, ◌<◌, ◌≤◌, IfOk, IfErr, OnOk, OnErr, IfSome, length, take};
 ghost use Rattle.io.specs.Counts.{IsPrefixLen};
 ghost use Rattle.file.specs.File.{Appended};
 ghost use Rattle.text_read.specs.Text.{number_of};
@@ -67,7 +67,8 @@ fn push_all(more: &[u8], bytes: &mut [u8])
 // Reads on to the end of the input. What is longer than any bundle is refused by its last two bytes alone (`last_refused`).
 fn read_on<R: Read>(input: &mut R, bytes: &mut [u8]) -> Result<()>
     requires { 2 ≤ length bytes.old }
-    ensures { OnOk result (IfSome (R.remaining input.old) (λ more. length more < 2 ^ 64 → last_two bytes.new ≡ last_two (bytes.old ++ more))) }
+    ensures last { OnOk result (IfSome (R.remaining input.old) (λ more. length more < 2 ^ 64 → last_two bytes.new ≡ last_two (bytes.old ++ more))) }
+    ensures err { OnErr result (length bytes.new ≡ length bytes.old) }
 {
     let mut more = io::large_buffer();
     let mut turns = 0u64;
@@ -87,6 +88,7 @@ fn read_input<R: Read>(input: &mut R, bytes: &mut [u8]) -> Result<usize>
     requires { 2 ≤ length bytes.old }
     ensures within { IfOk result (λ n. IsPrefixLen n bytes.new) }
     ensures kept { IfOk result (λ n. IfSome (R.remaining input.old) (λ all. length all < 2 ^ 64 → KeptOf (length bytes.old) all (take n bytes.new))) }
+    ensures err { IfErr result (λ _. length bytes.new ≡ length bytes.old) }
 {
     let n = streams::read_full(input, bytes)?;
     if n < bytes.len() {

@@ -10,7 +10,6 @@ use Rattle.sheet_bytes.specs.Bytes.{shortest}
 use Rattle.text.specs.Text.{refused_word, count_line, sheet_line, loose_line}
 use Rattle.text.specs.Laws.Text.{line_length, within}
 use Rattle.cut.specs.Laws.Output.{counted, refused}
-use borrow.Author.Rules.{rules}
 use Rattle.cut.proofs.answer.Goals as goal
 
 pub write_count-second-requires : goal.write_count-second-requires

@@ -8,7 +8,6 @@ use Rattle.text.specs.Laws.Text.{within}
 use Rattle.short_sheet.specs.Short.{plain_bytes, if_read, plain_sheets}
 use Rattle.list_short.specs.Output.{lines_of}
 use Rattle.list_short.specs.Laws.Output.{plain_is, text_parts, none_most, ones_most, twos_most}
-use borrow.Author.Rules.{rules}
 use Rattle.list_short.proofs.answer.Goals as goal
 
 first : lines_of (if_read (64 ∷ 1 ∷ 2 ∷ 3 ∷ 4 ∷ 5 ∷ 6 ∷ 0 ∷ [])) ≡ lines_of (if_read (plain_bytes []))

@@ -2,7 +2,6 @@
 use mathlib.Core.Path.{sym}
 use native.Mathlib.Omega.{arith}
 use Rattle.list_short.specs.Laws.Entry.{read, not_read}
-use borrow.Author.Rules.{rules}
 use Rattle.list_short.proofs.is_read.Goals as goal
 
 pub returns-in-Count : goal.returns-in-Count

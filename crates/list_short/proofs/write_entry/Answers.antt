@@ -5,7 +5,6 @@ use native.Mathlib.Omega.{arith}
 use lib.ListN.{length}
 use Rattle.file.specs.Laws.Written.{appended_as, appended_none}
 use Rattle.list_short.specs.Laws.Entry.{line_not_read, entry_line, line_most}
-use borrow.Author.Rules.{rules}
 use Rattle.list_short.proofs.write_entry.Goals as goal
 
 pub write_line-requires : goal.write_line-requires

@@ -1,13 +1,11 @@
 use mathlib.Core.Path.{ap}
 use mathlib.Core.List.{[], ◌∷◌}
-use Prim.Native.Nat.{◌-◌}
 use native.Mathlib.Omega.{arith}
 use Rattle.file.specs.Laws.Written.{appended_as}
 use Rattle.short_sheet.specs.Short.{if_read}
 use Rattle.list_short.specs.Output.{lines_of}
-use Rattle.list_short.specs.Laws.Loop.{Begun, begun_none, begun_room, begun_next, begun_all}
+use Rattle.list_short.specs.Laws.Loop.{begun_none, begun_room, begun_next, begun_all}
 use Rattle.list_short.specs.Laws.Output.{plain_is, one_of, ones_done, one_most}
-use borrow.Author.Rules.{rules}
 use Rattle.list_short.proofs.write_ones.Goals as goal
 
 pub loop-g-init : goal.loop-g-init

@@ -1,11 +1,7 @@
 -- The invariant: the lines of the pairs whose first number is below g are in the buffer.
 use Prim.Native.Nat.{◌-◌}
-use native.Mathlib.Omega.{arith}
-use Rattle.file.specs.Laws.Written.{appended_as}
 use Rattle.list_short.specs.Output.{pairs_of}
-use Rattle.list_short.specs.Laws.Loop.{Begun, begun_none, begun_room, begun_next, begun_all}
-use Rattle.list_short.specs.Laws.Output.{twos_done, pairs_most}
-use borrow.Author.Rules.{rules}
+use Rattle.list_short.specs.Laws.Loop.{Begun}
 use Rattle.list_short.proofs.write_twos.Given as goal
 
 abbrev pub invariant-loop-g : goal.invariant-loop-g

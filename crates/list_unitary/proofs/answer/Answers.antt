@@ -1,24 +1,33 @@
 -- The text is that of the answer's case.
-use mathlib.Core.Path.{◌≡◌, sym}
+use mathlib.Core.Path.{◌≡◌}
 use mathlib.Core.List.{List, [], ◌∷◌, ◌++◌}
 use Prim.Native.Nat.{ℕ, ◌+◌}
 use native.Mathlib.Omega.{arith}
 use lib.ListN.{length, take, length-append}
-use lib.Seq.{length-take-le}
 use Rattle.file.specs.Laws.Written.{appended_length, appended_append}
 use Rattle.text.specs.Text.{refused_word, count_line, gates_line, loose_line, list_lines, omega_line, refused_line}
 use Rattle.text.specs.Laws.Text.{line_length, within}
-use Rattle.list_unitary.specs.Laws.Output.{Lettered, lettered, refused}
-use borrow.Author.Rules.{rules}
+use Rattle.list_unitary.specs.Laws.Output.{lettered, refused}
 use Rattle.list_unitary.proofs.answer.Goals as goal
 
+-- the three lines of a list are as long as they are together
+size : (t loose : ℕ) (w : List ℕ) → length (list_lines t w loose) ≡ length (count_line t) + length (gates_line w) + length (loose_line loose)
+size t loose w =
+    let m = length-append (count_line t) (gates_line w) in
+    let n = length-append (count_line t ++ gates_line w) (loose_line loose) in
+    omega arith
+
 pub write_list-end-requires : goal.write_list-end-requires
-write_list-end-requires c = let k = lettered _ _ _ _ (omega arith) c.unitary_to_gates-answer.ensures _ _ _ _ c.in-Letters.is in let r = k.room in omega arith
+write_list-end-requires c =
+    let k = lettered _ _ _ _ (omega arith) c.unitary_to_gates-answer.ensures _ _ _ _ c.in-Letters.is in
+    let r = k.room in
+    omega arith
 
 pub write_omega-requires : goal.write_omega-requires
 write_omega-requires c =
-    let r = ((let told' : Lettered c.args.bytes.now c.unitary_to_gates-answer.new.out (c.in-Letters.count) c.in-Letters.letters (c.in-Letters.loose) (c.in-Letters.power) = lettered _ _ _ _ (omega arith) c.unitary_to_gates-answer.ensures _ _ _ _ c.in-Letters.is in told')).room in
-    let z = (let size' : length (list_lines (c.in-Letters.count) (take c.in-Letters.letters c.unitary_to_gates-answer.new.out) (c.in-Letters.loose)) ≡ length (count_line (c.in-Letters.count)) + length (gates_line (take c.in-Letters.letters c.unitary_to_gates-answer.new.out)) + length (loose_line (c.in-Letters.loose)) = let m = length-append (count_line (c.in-Letters.count)) (gates_line (take c.in-Letters.letters c.unitary_to_gates-answer.new.out)) in let n = length-append (count_line (c.in-Letters.count) ++ gates_line (take c.in-Letters.letters c.unitary_to_gates-answer.new.out)) (loose_line (c.in-Letters.loose)) in omega arith in size') in
+    let k = lettered _ _ _ _ (omega arith) c.unitary_to_gates-answer.ensures _ _ _ _ c.in-Letters.is in
+    let r = k.room in
+    let z = size c.in-Letters.count c.in-Letters.loose (take c.in-Letters.letters c.unitary_to_gates-answer.new.out) in
     let a = c.write_list-end.ensures in
     let e = a.next in
     let n = appended_length a (omega arith) in
@@ -29,11 +38,15 @@ write_refused-requires c = let l = line_length refused_word (c.in-Refused.refusa
 
 pub returns-in-Letters : goal.returns-in-Letters
 returns-in-Letters c =
-    let r = ((let told' : Lettered c.args.bytes.now c.unitary_to_gates-answer.new.out (c.in-Letters.count) c.in-Letters.letters (c.in-Letters.loose) (c.in-Letters.power) = lettered _ _ _ _ (omega arith) c.unitary_to_gates-answer.ensures _ _ _ _ c.in-Letters.is in told')).room in
-    let z = (let size' : length (list_lines (c.in-Letters.count) (take c.in-Letters.letters c.unitary_to_gates-answer.new.out) (c.in-Letters.loose)) ≡ length (count_line (c.in-Letters.count)) + length (gates_line (take c.in-Letters.letters c.unitary_to_gates-answer.new.out)) + length (loose_line (c.in-Letters.loose)) = let m = length-append (count_line (c.in-Letters.count)) (gates_line (take c.in-Letters.letters c.unitary_to_gates-answer.new.out)) in let n = length-append (count_line (c.in-Letters.count) ++ gates_line (take c.in-Letters.letters c.unitary_to_gates-answer.new.out)) (loose_line (c.in-Letters.loose)) in omega arith in size') in
-    let n = length-append (list_lines ((c.in-Letters.count)) ((take c.in-Letters.letters c.unitary_to_gates-answer.new.out)) ((c.in-Letters.loose))) (omega_line ((c.in-Letters.power))) in
+    let k = lettered _ _ _ _ (omega arith) c.unitary_to_gates-answer.ensures _ _ _ _ c.in-Letters.is in
+    let r = k.room in
+    let w = take c.in-Letters.letters c.unitary_to_gates-answer.new.out in
+    let z = size c.in-Letters.count c.in-Letters.loose w in
+    let first = list_lines c.in-Letters.count w c.in-Letters.loose in
+    let last = omega_line c.in-Letters.power in
+    let n = length-append first last in
     let a = appended_append c.write_list-end.ensures (omega arith) c.write_omega.ensures in
-    (record { text = list_lines ((c.in-Letters.count)) ((take c.in-Letters.letters c.unitary_to_gates-answer.new.out)) ((c.in-Letters.loose)) ++ omega_line ((c.in-Letters.power)); says = ((let told' : Lettered c.args.bytes.now c.unitary_to_gates-answer.new.out (c.in-Letters.count) c.in-Letters.letters (c.in-Letters.loose) (c.in-Letters.power) = lettered _ _ _ _ (omega arith) c.unitary_to_gates-answer.ensures _ _ _ _ c.in-Letters.is in told')).text; stands = a }, within a (omega arith))
+    (record { text = first ++ last; says = k.text; stands = a }, within a (omega arith))
 
 pub returns-in-Refused : goal.returns-in-Refused
 returns-in-Refused c =

@@ -7,7 +7,6 @@ use Rattle.file.specs.Laws.Written.{appended_as}
 use Rattle.text.specs.Text.{refused_word}
 use Rattle.text.specs.Laws.Text.{line_length, within}
 use Rattle.make_bundle.specs.Laws.Output.{made, refused}
-use borrow.Author.Rules.{rules}
 use Rattle.make_bundle.proofs.answer.Goals as goal
 
 pub write_refused-requires : goal.write_refused-requires

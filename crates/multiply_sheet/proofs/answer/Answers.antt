@@ -8,7 +8,6 @@ use Rattle.file.specs.Laws.Written.{appended_as}
 use Rattle.text.specs.Text.{refused_word}
 use Rattle.text.specs.Laws.Text.{line_length, within}
 use Rattle.multiply_sheet.specs.Laws.Output.{filed, refused}
-use borrow.Author.Rules.{rules}
 use Rattle.multiply_sheet.proofs.answer.Goals as goal
 
 pub write_refused-requires : goal.write_refused-requires

@@ -1,10 +1,6 @@
 -- The invariant: n is within the buffer.
 use Prim.Native.Nat.{◌-◌, ◌≤◌}
-use native.Mathlib.Omega.{arith}
-use mathlib.Core.Path.{sym}
 use lib.ListN.{length}
-use lib.Seq.{length-take-le}
-use borrow.Author.Rules.{rules}
 use Rattle.show.proofs.front.Given as goal
 
 abbrev pub invariant-loop-n : goal.invariant-loop-n

@@ -1,9 +1,6 @@
 -- The invariant: no more letters counted than passed.
-use mathlib.Core.Logic.{⊎_elim}
 use Prim.Native.Nat.{◌-◌, ◌≤◌}
-use native.Mathlib.Omega.{arith}
 use lib.ListN.{length}
-use borrow.Author.Rules.{rules}
 use Rattle.show_gates.proofs.number_of.Given as goal
 
 abbrev pub invariant-loop-n : goal.invariant-loop-n

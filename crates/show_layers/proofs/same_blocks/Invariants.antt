@@ -1,7 +1,6 @@
 -- The invariant: at is 1, 3, .., or 129.
 use mathlib.Core.Path.{◌≡◌}
 use Prim.Native.Nat.{◌-◌, ◌%◌, ◌≤◌}
-use borrow.Author.Rules.{rules}
 use Rattle.show_layers.proofs.same_blocks.Given as goal
 
 abbrev pub invariant-loop-at : goal.invariant-loop-at

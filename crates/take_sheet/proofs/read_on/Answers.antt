@@ -6,8 +6,8 @@ use Rattle.take_sheet.proofs.read_on.Goals as goal
 pub loop-turns-init : goal.loop-turns-init
 loop-turns-init g c = (omega arith, search rules, search rules, read_start _ c.args.bytes.now)
 
-pub returns-then-n-eq0 : goal.returns-then-n-eq0
-returns-then-n-eq0 g c =
+pub returns-then-n-eq0-clause-last : goal.returns-then-n-eq0-clause-last
+returns-then-n-eq0-clause-last g c =
     let m = length-take-le c.in_ok-n.n c.read_full.new.buf c.in_ok-n.ensures.within.0 in
     let e = c.in_ok-n.ensures.end (let l = c.loop-turns.invariant.2 in omega arith) in
     read_ended _ _ _ c.args.bytes.now c.loop-turns.bytes (take c.in_ok-n.n c.read_full.new.buf) c.loop-turns.turns c.loop-turns.invariant.3 c.in_ok-n.ensures.bytes (omega arith) e
@@ -24,5 +24,5 @@ loop-turns-preserved g c =
           _ _ _ c.loop-turns.invariant.3 c.in_ok-n.ensures.bytes (λ l. c.in_ok-n.ensures.end (omega arith)),
     )
 
-pub returns : goal.returns
-returns g c = read_far _ _ c.args.bytes.now c.loop-turns.bytes c.loop-turns.turns c.loop-turns-test.false c.loop-turns.invariant.3
+pub returns-clause-last : goal.returns-clause-last
+returns-clause-last g c = read_far _ _ c.args.bytes.now c.loop-turns.bytes c.loop-turns.turns c.loop-turns-test.false c.loop-turns.invariant.3

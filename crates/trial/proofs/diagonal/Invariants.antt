@@ -1,7 +1,6 @@
 -- The invariant: at is 1, 15, .., or 85.
 use mathlib.Core.Path.{◌≡◌}
 use Prim.Native.Nat.{◌-◌, ◌%◌, ◌≤◌}
-use borrow.Author.Rules.{rules}
 use Rattle.trial.proofs.diagonal.Given as goal
 
 abbrev pub invariant-loop-at : goal.invariant-loop-at
