@@ -172,15 +172,15 @@ columns_mono p q h r1 r2 r3 r4 r5 r6 t =
 abbrev join : (Bool → List Row) → List Row
 join h = h true ++ h false
 
-abbrev select : (Row → Bool) → List Row
+abbrev pub select : (Row → Bool) → List Row
 select p =
     join (λ a. join (λ b. join (λ c. join (λ d. join (λ e. join (λ f. elim (p (row a b c d e f)) [ true ↦ row a b c d e f ∷ [] | false ↦ [] ]))))))
 
-abbrev all_in : (Row → Bool) → List Row → Bool
+abbrev pub all_in : (Row → Bool) → List Row → Bool
 all_in g [] = true
 all_in g (r ∷ rs) = g r && all_in g rs
 
-abbrev member : Row → List Row → Bool
+abbrev pub member : Row → List Row → Bool
 member r [] = false
 member r (s ∷ rs) = same_row r s || member r rs
 
@@ -192,11 +192,11 @@ all_in_sound g r (s ∷ rs) m t =
     (λ k. all_in_sound g r rs k (right (g s) (all_in g rs) t))
 
 -- what is asked of a row and of a column, of two rows; the rows that pass; what is to be shown of six rows
-record Shape : Type 0 where
-  one : Row → Bool
-  two : Row → Row → Bool
-  rows : List Row
-  good : List Row → Bool
+pub record Shape : Type 0 where
+  pub one : Row → Bool
+  pub two : Row → Row → Bool
+  pub rows : List Row
+  pub good : List Row → Bool
 
 abbrev O : Row
 O = row false false false false false false
@@ -229,12 +229,12 @@ from3 s r1 r2 r3 = all_in (λ x. imp (pass4 s r1 r2 r3 x) (from4 s r1 r2 r3 x)) 
 from2 : Shape → Row → Row → Bool
 from2 s r1 r2 = all_in (λ x. imp (pass3 s r1 r2 x) (from3 s r1 r2 x)) s.rows
 
-from1 : Shape → Row → Bool
+pub from1 : Shape → Row → Bool
 from1 s r1 = all_in (λ x. imp (pass2 s r1 x) (from2 s r1 x)) s.rows
 
 -- the enumeration passes, so six rows that meet the hypotheses are good
 module _ (s : Shape) (run : T (all_in (from1 s) s.rows)) (rows : (r : Row) → T (s.one r) → T (member r s.rows)) where
-  enumerated : (m : ℕ → Row) → ((i : ℕ) → i < 6 → T (s.one (m i))) → ((i j : ℕ) → i < j → j < 6 → T (s.two (m i) (m j)))
+  pub enumerated : (m : ℕ → Row) → ((i : ℕ) → i < 6 → T (s.one (m i))) → ((i j : ℕ) → i < j → j < 6 → T (s.two (m i) (m j)))
       → T (columns s.one (m 0) (m 1) (m 2) (m 3) (m 4) (m 5)) → T (s.good (six (m 0) (m 1) (m 2) (m 3) (m 4) (m 5)))
   unfolding pass2 pass3 pass4 pass5 pass6 from5 from4 from3 from2 from1
   enumerated m a e c =
@@ -266,14 +266,14 @@ abbrev pub not_zero : List Row → Bool
 not_zero [] = false
 not_zero (r ∷ rs) = not (eqb (weight r) 0) || not_zero rs
 
-unfoldable shape4 : Shape
+unfoldable pub shape4 : Shape
 shape4 = record { one = none_or_four; two = meet_evenly; rows = select none_or_four; good = λ m. imp (not_zero m) (paired m) }
 
-run4 : T (all_in (from1 shape4) shape4.rows)
+pub run4 : T (all_in (from1 shape4) shape4.rows)
 unfolding shape4 paired grouped agrees place table every_from first_from total pass2 pass3 pass4 pass5 pass6 from5 from4 from3 from2 from1
 run4 = tt
 
-rows4 : (r : Row) → T (none_or_four r) → T (member r (select none_or_four))
+pub rows4 : (r : Row) → T (none_or_four r) → T (member r (select none_or_four))
 unfolding either_way
 rows4 = implies none_or_four (λ r. member r (select none_or_four)) tt
 
@@ -284,13 +284,8 @@ six_of m = six (m 0) (m 1) (m 2) (m 3) (m 4) (m 5)
 abbrev pub column_of : (ℕ → Row) → ℕ → Row
 column_of m c = row (column c (m 0)) (column c (m 1)) (column c (m 2)) (column c (m 3)) (column c (m 4)) (column c (m 5))
 
-columns_of : (p : Row → Bool) (m : ℕ → Row) → ((c : ℕ) → c < 6 → T (p (column_of m c))) → T (columns p (m 0) (m 1) (m 2) (m 3) (m 4) (m 5))
+pub columns_of : (p : Row → Bool) (m : ℕ → Row) → ((c : ℕ) → c < 6 → T (p (column_of m c))) → T (columns p (m 0) (m 1) (m 2) (m 3) (m 4) (m 5))
 columns_of p m h = true_T (every_complete 6 (λ c. p (column_of m c)) (λ c l. T_true _ (h c l)))
-
-pub grouping_four : (m : ℕ → Row) → ((i : ℕ) → i < 6 → T (none_or_four (m i))) → ((i j : ℕ) → i < j → j < 6 → T (meet_evenly (m i) (m j)))
-    → ((c : ℕ) → c < 6 → T (none_or_four (column_of m c))) → T (not_zero (six_of m)) → T (paired (six_of m))
-unfolding shape4
-grouping_four m a e c n = imp_sound (not_zero (six_of m)) (paired (six_of m)) (enumerated shape4 run4 rows4 m a e (columns_of none_or_four m c)) n
 
 -- ---- k = 1: two bits in a row and in a column, and two rows meet in both or in none
 

@@ -7,7 +7,7 @@ use Rattle.std.specs.Int.Count.{ones}
 use Rattle.matrix.specs.Range.{sum, every_from, bits, total, first_from}
 use Rattle.matrix.specs.Integer.{parity}
 use Rattle.matrix.specs.Matrix.{Matrix, transpose}
-use Rattle.matrix.specs.Operator.{operator, Orthogonal, AllEven, Reduced}
+use Rattle.matrix.specs.Operator.{operator, Orthogonal, AllEven}
 use Rattle.matrix.specs.Array.{row_mask, row_weight}
 use Rattle.matrix.specs.Laws.Parity.{parity_add, parity_mul, parity_lt, parity_even}
 use Rattle.matrix.specs.Laws.Range.{First, first_found, total_cong, total_some}
@@ -18,15 +18,15 @@ use Rattle.residue.specs.Masks.{has_even_row}
 use Rattle.grouping.specs.Grouping.{group_size, in_groups_of, is_loose, fitting}
 use Rattle.matrix.specs.Laws.Test.{left, right, or_elim, T_true, true_T}
 use Rattle.residue.specs.Laws.Generator.{low_six, high_six}
-use Rattle.grouping.specs.Laws.Grouping.{Row, row, bit, weight, meet, same_row, beq_sound, same_row_sound, same_row_refl, column, nth, agrees, size, rows_in_groups_of, two_and_four, grouped, has_zero, agreeing, paired, six_of, column_of, none_or_four, not_zero, two, meet_in_two_or_none, grouping_four, grouping_two}
+use Rattle.grouping.specs.Laws.Grouping.{Row, row, bit, weight, meet, same_row, beq_sound, same_row_sound, same_row_refl, column, nth, agrees, size, rows_in_groups_of, two_and_four, grouped, has_zero, agreeing, paired, six_of, column_of, none_or_four, not_zero, two}
 
 -- ---- vectors of six numbers
 
-abbrev odd : ℤ → Bool
+abbrev pub odd : ℤ → Bool
 odd z = eqb (parity z) 1
 
 -- the odd entries of a vector as bits
-abbrev odd_bits : (ℕ → ℤ) → Row
+abbrev pub odd_bits : (ℕ → ℤ) → Row
 odd_bits v = row (odd (v 0)) (odd (v 1)) (odd (v 2)) (odd (v 3)) (odd (v 4)) (odd (v 5))
 
 bit_odd : (z : ℤ) → bit (odd z) ≡ parity z
@@ -40,7 +40,7 @@ bit_odd z = go (parity z) (parity_lt z)
 weight_odd : (v : ℕ → ℤ) → weight (odd_bits v) ≡ parity (v 0) + parity (v 1) + parity (v 2) + parity (v 3) + parity (v 4) + parity (v 5)
 weight_odd v = rw (bit_odd (v 0), bit_odd (v 1), bit_odd (v 2), bit_odd (v 3), bit_odd (v 4), bit_odd (v 5))
 
-abbrev square : (ℕ → ℤ) → ℕ → ℕ
+abbrev pub square : (ℕ → ℤ) → ℕ → ℕ
 square v c = nat_abs (v c) * nat_abs (v c)
 
 square_mod_four : (n : ℕ) → (n * n) % 4 ≡ n % 2
@@ -75,7 +75,7 @@ weight_le (row a b c d e f) = let p = le a in let q = le b in let s = le c in le
     le false = omega arith
 
 -- "For k of at least 2 the odd entries of a row, as six bits, number none or four"
-none_or_four_lem : (k : ℕ) (v : ℕ → ℤ) → sum 6 (λ c. v c *ℤ v c) ≡ pos (2 ^ suc (suc k)) → T (none_or_four (odd_bits v))
+pub none_or_four_lem : (k : ℕ) (v : ℕ → ℤ) → sum 6 (λ c. v c *ℤ v c) ≡ pos (2 ^ suc (suc k)) → T (none_or_four (odd_bits v))
 none_or_four_lem k v e =
     last (weight (odd_bits v)) (sym (norm_leaves v) ∙ ap (λ n. n % 4) (norm_total v (2 ^ suc (suc k)) e) ∙ four (2 ^ k)) (weight_le (odd_bits v))
   where
@@ -100,7 +100,7 @@ small_square z h = go (nat_abs z) h
     go (suc zero) h = refl
     go (suc (suc n)) h = absurd (omega arith)
 
-only_two : (v : ℕ → ℤ) → sum 6 (λ c. v c *ℤ v c) ≡ pos 2 → weight (odd_bits v) ≡ 2
+pub only_two : (v : ℕ → ℤ) → sum 6 (λ c. v c *ℤ v c) ≡ pos 2 → weight (odd_bits v) ≡ 2
 unfolding total
 only_two v e =
     weight_odd v
@@ -146,7 +146,7 @@ meets_evenly u v e =
     sums : parity (((((pos 0 +ℤ p 0 +ℤ p 1) +ℤ p 2) +ℤ p 3) +ℤ p 4) +ℤ p 5) ≡ (parity (p 0) + parity (p 1) + parity (p 2) + parity (p 3) + parity (p 4) + parity (p 5)) % 2
     sums = more _ (p 5) _ (more _ (p 4) _ (more _ (p 3) _ (more _ (p 2) _ (more _ (p 1) _ (more (pos 0) (p 0) 0 zero_even ∙ ap (λ n. n % 2) (zero-add (parity (p 0))))))))
 
-meet_le : (r s : Row) → weight (meet r s) ≤ weight r
+pub meet_le : (r s : Row) → weight (meet r s) ≤ weight r
 meet_le (row a b c d e f) (row a' b' c' d' e' f') =
     let p = le a a' in let q = le b b' in let s = le c c' in let t = le d d' in let u = le e e' in let w = le f f' in omega arith
   where
@@ -158,10 +158,10 @@ meet_le (row a b c d e f) (row a' b' c' d' e' f') =
 -- ---- the masks and the rows of bits
 
 -- row i of M as bits
-abbrev odd_row : Matrix → ℕ → Row
+abbrev pub odd_row : Matrix → ℕ → Row
 odd_row M i = odd_bits (M i)
 
-column_odd : (M : Matrix) (c : ℕ) → c < 6 → column_of (odd_row M) c ≡ odd_bits (λ r. M r c)
+pub column_odd : (M : Matrix) (c : ℕ) → c < 6 → column_of (odd_row M) c ≡ odd_bits (λ r. M r c)
 column_odd M zero h = refl
 column_odd M (suc zero) h = refl
 column_odd M (suc (suc zero)) h = refl
@@ -265,7 +265,7 @@ unfolding fitting
 fits_some f true e = total_some (fits f) 1 15 (omega arith)
 fits_some f false e = total_some (fits f) 1 15 (omega arith)
 
-grouped_of : (M : Matrix) → T (paired (six_of (odd_row M))) → Grouped (row_mask M)
+pub grouped_of : (M : Matrix) → T (paired (six_of (odd_row M))) → Grouped (row_mask M)
 unfolding paired grouped first_fit is_loose
 grouped_of M t =
     let m = six_of (odd_row M) in
@@ -282,10 +282,10 @@ grouped_of M t =
       fit = first_found (fits (row_mask M)) 1 15 g holds from below;
     }
 
-column_norm : (k : ℕ) (M : Matrix) → Orthogonal (operator k M) → (c : ℕ) → c < 6 → sum 6 (λ r. M r c *ℤ M r c) ≡ pos (2 ^ k)
+pub column_norm : (k : ℕ) (M : Matrix) → Orthogonal (operator k M) → (c : ℕ) → c < 6 → sum 6 (λ r. M r c *ℤ M r c) ≡ pos (2 ^ k)
 column_norm k M o c h = row_norm k (transpose M) (inverse_orthogonal o) c h
 
-row_meets : (k : ℕ) (M : Matrix) → Orthogonal (operator k M) → (i j : ℕ) → i < j → j < 6 → weight (meet (odd_row M i) (odd_row M j)) % 2 ≡ 0
+pub row_meets : (k : ℕ) (M : Matrix) → Orthogonal (operator k M) → (i j : ℕ) → i < j → j < 6 → weight (meet (odd_row M i) (odd_row M j)) % 2 ≡ 0
 row_meets k M o i j l h = meets_evenly (M i) (M j) (row_other k M o i j (omega arith) h (omega arith))
 
 -- "For k of at least 2 the odd entries of a row, as six bits, number none or four; for k = 1, two", and of a column
@@ -328,35 +328,6 @@ zero_bits v e (suc (suc (suc (suc zero)))) h = omega (arith, weight_odd v)
 zero_bits v e (suc (suc (suc (suc (suc zero))))) h = omega (arith, weight_odd v)
 zero_bits v e (suc (suc (suc (suc (suc (suc c)))))) h = absurd (omega arith)
 
-all_zero : (M : Matrix) → not_zero (six_of (odd_row M)) ≡ false → AllEven M
+pub all_zero : (M : Matrix) → not_zero (six_of (odd_row M)) ≡ false → AllEven M
 all_zero M e i j hi hj =
     parity_even (M i j) (zero_bits (M i) (ap weight (sym (nth_six (odd_row M) i hi)) ∙ zero_rows (six_of (odd_row M)) e i) j hj)
-
-pub grouped_rows : (k : ℕ) (M : Matrix) → Orthogonal (operator (suc k) M) → Reduced (operator (suc k) M) → Grouped (row_mask M)
-grouped_rows zero M o r =
-    grouped_of M
-    (grouping_two (odd_row M) (λ i h. is_two (M i) (row_norm 1 M o i h)) (λ i j l h. meet_two i j l h)
-    (λ c h. subst (λ x. T (two x)) (sym (column_odd M c h)) (is_two (λ r. M r c) (column_norm 1 M o c h))))
-  where
-    is_two : (v : ℕ → ℤ) → sum 6 (λ c. v c *ℤ v c) ≡ pos 2 → T (two (odd_bits v))
-    is_two v e = true_T (eq-eqb _ _ (only_two v e))
-
-    meet_two : (i j : ℕ) → i < j → j < 6 → T (meet_in_two_or_none (odd_row M i) (odd_row M j))
-    meet_two i j l h =
-        last (weight (meet (odd_row M i) (odd_row M j))) (row_meets 1 M o i j l h)
-        (subst (λ n. weight (meet (odd_row M i) (odd_row M j)) ≤ n) (only_two (M i) (row_norm 1 M o i (omega arith))) (meet_le (odd_row M i) (odd_row M j)))
-      where
-        last : (w : ℕ) → w % 2 ≡ 0 → w ≤ 2 → T (eqb w 0 || eqb w 2)
-        last zero m h = tt
-        last (suc zero) m h = absurd (omega arith)
-        last (suc (suc zero)) m h = tt
-        last (suc (suc (suc w))) m h = absurd (omega arith)
-grouped_rows (suc k) M o r =
-    grouped_of M
-    (grouping_four (odd_row M) (λ i h. none_or_four_lem k (M i) (row_norm (suc (suc k)) M o i h)) (λ i j l h. true_T (eq-eqb _ _ (row_meets (suc (suc k)) M o i j l h)))
-    (λ c h. subst (λ x. T (none_or_four x)) (sym (column_odd M c h)) (none_or_four_lem k (λ r. M r c) (column_norm (suc (suc k)) M o c h)))
-    (go (not_zero (six_of (odd_row M))) refl))
-  where
-    go : (t : Bool) → not_zero (six_of (odd_row M)) ≡ t → T t
-    go true e = tt
-    go false e = let small : suc (suc k) ≤ 1 = r.small (all_zero M e) in absurd (omega arith)

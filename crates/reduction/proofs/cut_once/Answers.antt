@@ -12,7 +12,7 @@ use Rattle.matrix.specs.Laws.Array.{orthogonal_bounded}
 use Rattle.residue.specs.Generator.{first_fit}
 use Rattle.residue.specs.Masks.{mask_at, has_even_row}
 use Rattle.residue.specs.Laws.Masks.{first_fit_held, even_row_held}
-use Rattle.grouping.specs.Laws.Residue.{grouped_rows}
+use Rattle.grouping.proofs.Grouping.{grouped_rows}
 use Rattle.reduction.specs.Reduction.{cut, chosen, loose_cut}
 use Rattle.reduction.specs.Result.{Cuttable}
 use Rattle.reduction.specs.Laws.Step.{one_step}

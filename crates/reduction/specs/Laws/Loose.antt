@@ -10,7 +10,8 @@ use Rattle.matrix.specs.Operator.{operator, SameOperator, Orthogonal, Reduced}
 use Rattle.matrix.specs.Array.{row_mask, least_form}
 use Rattle.matrix.specs.Laws.Array.{least_form_lem, least_orthogonal, same_least_form}
 use Rattle.matrix.specs.Laws.Right.{masks_right}
-use Rattle.grouping.specs.Laws.Loose.{loose_cong, forced_at_one}
+use Rattle.grouping.specs.Laws.Loose.{loose_cong}
+use Rattle.grouping.proofs.Grouping.{forced_at_one}
 use Rattle.reduction.specs.Reduction.{step, remainder, loose_cut, loose_cuts, count, loose}
 use Rattle.reduction.specs.Laws.NormalForm.{step_orthogonal, step_reduced}
 use Rattle.reduction.specs.Laws.Right.{times_right, right_step, least_times}

@@ -14,7 +14,7 @@ use Rattle.matrix.specs.Laws.Array.{entry_listed, length_listed, listed_cong, le
 use Rattle.matrix.specs.Laws.Right.{masks_right, least_right}
 use Rattle.residue.specs.Generator.{generator, fits}
 use Rattle.residue.specs.Laws.Generator.{fits_cong, first_fit_cong}
-use Rattle.grouping.specs.Laws.Residue.{grouped_rows}
+use Rattle.grouping.proofs.Grouping.{grouped_rows}
 use Rattle.reduction.specs.Reduction.{cut, chosen, step, generators, remainder, count, taken, remaining}
 use Rattle.reduction.specs.Laws.Step.{doubled}
 use Rattle.reduction.specs.Laws.NormalForm.{step_same, step_orthogonal, step_reduced}

@@ -19,7 +19,7 @@ use Rattle.matrix.specs.Laws.Operator.{same_operator_of, same_orthogonal, times_
 use Rattle.matrix.specs.Laws.Array.{equal_masks, half_sums_other, half_sums_exact}
 use Rattle.residue.specs.Generator.{low, high, generator, turned_pair, turned, fits, first_fit}
 use Rattle.residue.specs.Laws.Generator.{low_not_high, pairs_apart, turned_pair_cong, generator_orthogonal, generator_product, turned_det}
-use Rattle.grouping.specs.Laws.Residue.{grouped_rows}
+use Rattle.grouping.proofs.Grouping.{grouped_rows}
 use Rattle.reduction.specs.Reduction.{cut}
 
 module _ (g : ℕ) (l : 1 ≤ g) (u : g ≤ 15) (M : Matrix) (f : fits (row_mask M) g ≡ true) where
