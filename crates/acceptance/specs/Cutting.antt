@@ -1,5 +1,6 @@
 -- What is computed of an operator file: its refusal, or its normal form.
-use Rattle.std.specs.Prelude.{List, ◌≡◌, ℕ, ℤ}
+use Rattle.std.specs.Prelude.{List, ◌≡◌, ℕ, ℤ, Result}
+use Rattle.refusal.specs.Refusal.{RefusedOr}
 use Rattle.matrix.specs.Matrix.{entry}
 use Rattle.clifford.specs.Columns.{column_bytes}
 use Rattle.file.specs.File.{file_exponent, file_matrix}
@@ -20,13 +21,16 @@ file_numbers b = reduction.taken (file_exponent b) (file_matrix b)
 abbrev pub file_columns : List ℕ → List ℕ
 file_columns b = column_bytes (entry (reduction.remaining (file_exponent b) (file_matrix b)))
 
--- of the pair (k, m), where n is its refusal
-pub record CutAs (n k : ℕ) (m : List ℤ) (r : Cut) : Type 0 where
-  pub refusal : r.refusal ≡ n
-  pub count : n ≡ 0 → r.count ≡ reduction.count k m
-  pub loose : n ≡ 0 → r.loose ≡ reduction.loose k m
-  pub numbers : n ≡ 0 → r.numbers ≡ numbers_of (reduction.count k m) (reduction.taken k m)
-  pub columns : n ≡ 0 → r.columns ≡ column_bytes (entry (reduction.remaining k m))
+-- the normal form of the pair (k, m)
+pub record CutFrom (k : ℕ) (m : List ℤ) (r : Cut) : Type 0 where
+  pub count : r.count ≡ reduction.count k m
+  pub loose : r.loose ≡ reduction.loose k m
+  pub numbers : r.numbers ≡ numbers_of (reduction.count k m) (reduction.taken k m)
+  pub columns : r.columns ≡ column_bytes (entry (reduction.remaining k m))
 
-abbrev pub CutOf : List ℕ → Cut → Type 0
+-- of the pair (k, m), where n is its refusal
+abbrev pub CutAs : ℕ → ℕ → List ℤ → Result Cut ℕ → Type 0
+CutAs n k m r = RefusedOr n (CutFrom k m) r
+
+abbrev pub CutOf : List ℕ → Result Cut ℕ → Type 0
 CutOf b r = CutAs (file_refusal b) (file_exponent b) (file_matrix b) r

@@ -1,12 +1,9 @@
 -- An answer as one word of 64 bits, for callers in other languages.
-use Rattle.std.specs.Prelude.{cond, ◌≡◌, ℕ, ◌+◌, ◌*◌, ◌^◌, ◌/◌, ◌%◌, ◌<◌, ◌≤◌, eqb}
-use Rattle.file.specs.declared.Answer.{Answer}
-use Rattle.file.specs.declared.Answer.TheVariants.{Count, Refused}
-use Rattle.file.specs.declared.Wrote as wrote
-use Rattle.operator.specs.declared.Cuts as cuts
-use Rattle.operator.specs.declared.Listed as listed
-use Rattle.unitary_gates.specs.declared.Synthesis as synthesis
-use Rattle.bundle.specs.declared.Part as part
+use Rattle.std.specs.Prelude.{cond, ◌≡◌, ℕ, ◌+◌, ◌*◌, ◌^◌, ◌/◌, ◌%◌, ◌<◌, ◌≤◌, eqb, Result, Ok, Err}
+use Rattle.operator.specs.declared.Cuts.{Cuts}
+use Rattle.operator.specs.declared.Listed.{Listed}
+use Rattle.unitary_gates.specs.declared.Synthesis.{Synthesis}
+use Rattle.bundle.specs.declared.Part.{Part}
 
 -- ---- the layout
 
@@ -43,49 +40,44 @@ decoded w = cond (eqb (bits 0 8 w) 0) (given (bits 8 24 w) (bits 32 16 w) (bits 
 
 -- ---- what the calls answer
 
--- the count, the figure or the number of layers is the value
-abbrev pub answer_parts : Answer → Parts
-answer_parts (Count n) = given n 0 0 0
-answer_parts (Refused n) = refused n
+-- the count, the figure, the number of layers or the number of bytes written is the value
+abbrev pub answer_parts : Result ℕ ℕ → Parts
+answer_parts (Ok n) = given n 0 0 0
+answer_parts (Err n) = refused n
 
 -- the count is the value, beside it L
-abbrev pub cuts_parts : cuts.Cuts → Parts
-cuts_parts (cuts.TheVariants.Taken t loose) = given t 0 loose 0
-cuts_parts (cuts.TheVariants.Refused n) = refused n
+abbrev pub cuts_parts : Result Cuts ℕ → Parts
+cuts_parts (Ok a) = given a.count 0 a.loose 0
+cuts_parts (Err n) = refused n
 
 -- the count is the value, the number of letters written the length, beside them L and the sign
-abbrev pub listed_parts : listed.Listed → Parts
-listed_parts (listed.TheVariants.Letters t letters loose sign) = given t letters loose sign
-listed_parts (listed.TheVariants.Refused n) = refused n
+abbrev pub listed_parts : Result Listed ℕ → Parts
+listed_parts (Ok a) = given a.count a.letters a.loose a.sign
+listed_parts (Err n) = refused n
 
 -- the number of letters written
-abbrev pub letters_of : listed.Listed → ℕ
-letters_of (listed.TheVariants.Letters t letters loose sign) = letters
-letters_of (listed.TheVariants.Refused n) = 0
+abbrev pub letters_of : Result Listed ℕ → ℕ
+letters_of (Ok a) = a.letters
+letters_of (Err n) = 0
 
 -- and so for a unitary, with the power of ω in place of the sign
-abbrev pub synthesis_parts : synthesis.Synthesis → Parts
-synthesis_parts (synthesis.TheVariants.Letters t letters loose power) = given t letters loose power
-synthesis_parts (synthesis.TheVariants.Refused n) = refused n
+abbrev pub synthesis_parts : Result Synthesis ℕ → Parts
+synthesis_parts (Ok a) = given a.count a.letters a.loose a.power
+synthesis_parts (Err n) = refused n
 
-abbrev pub synthesis_letters : synthesis.Synthesis → ℕ
-synthesis_letters (synthesis.TheVariants.Letters t letters loose power) = letters
-synthesis_letters (synthesis.TheVariants.Refused n) = 0
-
--- how many bytes were written is the value
-abbrev pub wrote_parts : wrote.Wrote → Parts
-wrote_parts (wrote.TheVariants.Bytes n) = given n 0 0 0
-wrote_parts (wrote.TheVariants.Refused n) = refused n
+abbrev pub synthesis_letters : Result Synthesis ℕ → ℕ
+synthesis_letters (Ok a) = a.letters
+synthesis_letters (Err n) = 0
 
 -- the number of bytes written
-abbrev pub bytes_of : wrote.Wrote → ℕ
-bytes_of (wrote.TheVariants.Bytes n) = n
-bytes_of (wrote.TheVariants.Refused n) = 0
+abbrev pub bytes_of : Result ℕ ℕ → ℕ
+bytes_of (Ok n) = n
+bytes_of (Err n) = 0
 
 -- the place of a part's first byte is the value, its length the length
-abbrev pub part_parts : part.Part → Parts
-part_parts (part.TheVariants.At start size) = given start size 0 0
-part_parts (part.TheVariants.Refused n) = refused n
+abbrev pub part_parts : Result Part ℕ → Parts
+part_parts (Ok a) = given a.start a.length 0 0
+part_parts (Err n) = refused n
 
 -- r is the word of the parts p, and they have room, so that a caller finds them (`parts_back`)
 pub record WordOf (p : Parts) (r : ℕ) : Type 0 where

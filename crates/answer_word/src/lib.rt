@@ -2,13 +2,14 @@
 
 #![tactic(auto)]
 
-ghost use Rattle.std.specs.Prelude.{◌≢◌, ◌≡◌, ◌^◌, ◌<◌};
+ghost use Rattle.std.specs.Prelude.{◌≡◌, ◌^◌, ◌<◌, ◌≤◌};
+ghost use Rattle.refusal.specs.Refusal.{numbered};
 ghost use Rattle.bundle.specs.Bundle.{Placed};
-ghost use Rattle.answer_word.specs.Encoding.{packed, answer_parts, cuts_parts, listed_parts, letters_of, synthesis_parts, synthesis_letters, wrote_parts, bytes_of, part_parts, WordOf};
+ghost use Rattle.answer_word.specs.Encoding.{packed, refused, answer_parts, cuts_parts, listed_parts, letters_of, synthesis_parts, synthesis_letters, bytes_of, part_parts, WordOf};
 
 use bundle::Part;
-use file::{Answer, Wrote};
 use operator::{Cuts, Listed};
+use refusal::Refusal;
 use unitary_gates::Synthesis;
 
 // The lowest bit of each part of a word; that of the refusal is 1.
@@ -33,84 +34,95 @@ fn pack(refusal: u8, value: u32, length: u16, loose: u8, phase: u8) -> u64
         + PHASE * (phase as u64)
 }
 
+// The word of a refusal, by its number.
+// Wrong, and refused: a value beside a refusal.
+pub fn encode_refusal(number: u8) -> u64
+    requires { 1 ≤ number }
+    ensures { WordOf (refused number) result }
+{
+    pack(number, 0, 0, 0, 0)
+}
+
 // The word of an answer.
-// Wrong, and refused: the count as a length; a value beside a refusal.
-pub fn encode_answer(answer: Answer) -> u64
-    requires { answer ≢ Answer.Refused 0 }
-    ensures { WordOf (answer_parts answer) result }
+// Wrong, and refused: the count as a length; the number of another refusal.
+pub fn encode_answer(answer: Result<u8, Refusal>) -> u64
+    ensures { WordOf (answer_parts (numbered answer)) result }
 {
     match answer {
-        Answer::Count(count) => pack(0, count as u32, 0, 0, 0),
-        Answer::Refused(refusal) => pack(refusal, 0, 0, 0, 0),
+        Ok(count) => pack(0, count as u32, 0, 0, 0),
+        Err(refusal) => encode_refusal(refusal.number()),
     }
 }
 
 // The word of the answer of the call for a sheet.
 // Wrong, and refused: L in the bits of the phase; L beside a refusal.
-pub fn encode_cuts(answer: Cuts) -> u64
-    requires { answer ≢ Cuts.Refused 0 }
-    ensures { WordOf (cuts_parts answer) result }
+pub fn encode_cuts(answer: Result<Cuts, Refusal>) -> u64
+    ensures { WordOf (cuts_parts (numbered answer)) result }
 {
     match answer {
-        Cuts::Taken { count, loose } => pack(0, count as u32, 0, loose, 0),
-        Cuts::Refused(refusal) => pack(refusal, 0, 0, 0, 0),
+        Ok(Cuts { count, loose }) => pack(0, count as u32, 0, loose, 0),
+        Err(refusal) => encode_refusal(refusal.number()),
     }
 }
 
 // The word of the answer of the call for a gate list.
 // Wrong, and refused: the count as the number of letters; a refusal beside a count; L left out; the sign left out; L and the sign in each other's bits.
-pub fn encode_listed(answer: Listed) -> u64
-    requires { (answer ≢ Listed.Refused 0) × (letters_of answer < 2 ^ 16) }
-    ensures { WordOf (listed_parts answer) result }
+pub fn encode_listed(answer: Result<Listed, Refusal>) -> u64
+    requires { letters_of (numbered answer) < 2 ^ 16 }
+    ensures { WordOf (listed_parts (numbered answer)) result }
 {
     match answer {
-        Listed::Letters {
-            count,
-            letters,
-            loose,
-            sign,
-        } => pack(0, count as u32, letters as u16, loose, sign),
-        Listed::Refused(refusal) => pack(refusal, 0, 0, 0, 0),
+        Ok(
+            Listed {
+                count,
+                letters,
+                loose,
+                sign,
+            },
+        ) => pack(0, count as u32, letters as u16, loose, sign),
+        Err(refusal) => encode_refusal(refusal.number()),
     }
 }
 
 // The word of the answer of the call for a unitary.
 // Wrong, and refused: the power of ω left out; L and the power in each other's bits.
-pub fn encode_synthesis(answer: Synthesis) -> u64
-    requires { (answer ≢ Synthesis.Refused 0) × (synthesis_letters answer < 2 ^ 16) }
-    ensures { WordOf (synthesis_parts answer) result }
+pub fn encode_synthesis(answer: Result<Synthesis, Refusal>) -> u64
+    requires { synthesis_letters (numbered answer) < 2 ^ 16 }
+    ensures { WordOf (synthesis_parts (numbered answer)) result }
 {
     match answer {
-        Synthesis::Letters {
-            count,
-            letters,
-            loose,
-            power,
-        } => pack(0, count as u32, letters as u16, loose, power),
-        Synthesis::Refused(refusal) => pack(refusal, 0, 0, 0, 0),
+        Ok(
+            Synthesis {
+                count,
+                letters,
+                loose,
+                power,
+            },
+        ) => pack(0, count as u32, letters as u16, loose, power),
+        Err(refusal) => encode_refusal(refusal.number()),
     }
 }
 
 // The word of the answer of a call that writes as many bytes as its input calls for.
 // Wrong, and refused: the bytes as a length; a value beside a refusal.
-pub fn encode_wrote(answer: Wrote) -> u64
-    requires { (answer ≢ Wrote.Refused 0) × (bytes_of answer < 2 ^ 24) }
-    ensures { WordOf (wrote_parts answer) result }
+pub fn encode_wrote(answer: Result<usize, Refusal>) -> u64
+    requires { bytes_of (numbered answer) < 2 ^ 24 }
+    ensures { WordOf (answer_parts (numbered answer)) result }
 {
     match answer {
-        Wrote::Bytes(bytes) => pack(0, bytes as u32, 0, 0, 0),
-        Wrote::Refused(refusal) => pack(refusal, 0, 0, 0, 0),
+        Ok(bytes) => pack(0, bytes as u32, 0, 0, 0),
+        Err(refusal) => encode_refusal(refusal.number()),
     }
 }
 
 // The word of where a part stands.
 // Wrong, and refused: the first byte and the length in each other's bits; the length left out.
-pub fn encode_part(part: Part) -> u64
-    requires { (part ≢ Part.Refused 0) × Placed part }
-    ensures { WordOf (part_parts part) result }
+pub fn encode_part(part: Result<Part, Refusal>) -> u64
+    requires { Placed (numbered part) }
+    ensures { WordOf (part_parts (numbered part)) result }
 {
     match part {
-        Part::At { start, length } => pack(0, start as u32, length as u16, 0, 0),
-        Part::Refused(refusal) => pack(refusal, 0, 0, 0, 0),
+        Ok(Part { start, length }) => pack(0, start as u32, length as u16, 0, 0),
+        Err(refusal) => encode_refusal(refusal.number()),
     }
 }

@@ -3,7 +3,10 @@
 #![tactic(auto)]
 
 ghost use Rattle.std.specs.Prelude.{◌≡◌, ◌≤◌};
+ghost use Rattle.refusal.specs.Refusal.{numbered, refusal_of};
 ghost use Rattle.block.specs.Block.{is_on_two, are_on_two, program_refusal};
+
+use refusal::Refusal;
 
 // The most blocks of a program.
 pub const MOST_BLOCKS: usize = 64;
@@ -16,13 +19,7 @@ pub const QUBITS: u8 = 32;
 fn is_on_two(x: u8, y: u8) -> bool
     ensures { result ≡ is_on_two (record { first = x; second = y }) }
 {
-    if QUBITS <= x {
-        return false;
-    }
-    if QUBITS <= y {
-        return false;
-    }
-    x != y
+    x < QUBITS && y < QUBITS && x != y
 }
 
 // Whether no block of w bytes earns 25.
@@ -32,30 +29,25 @@ fn are_on_two(bytes: &[u8], w: usize) -> bool
     ensures { result ≡ are_on_two w bytes.now }
 {
     let count = bytes.len() / w;
-    let mut n = 0usize;
-    while n < count {
+    for n in 0..count {
         if !is_on_two(bytes[w * n], bytes[w * n + 1]) {
             return false;
         }
-        n += 1;
     }
     true
 }
 
-// The refusal that a program of blocks of w bytes earns: 24 or 25, or 0 for none.
+// Whether a program of blocks of w bytes earns no refusal.
 // Wrong, and refused: 65 blocks taken; bytes that are left over taken; 25 before 24.
-pub fn program_refusal(bytes: &[u8], w: usize) -> u8
+pub fn check_program(bytes: &[u8], w: usize) -> Result<(), Refusal>
     requires { (2 ≤ w) × (w ≤ 5) }
-    ensures { result ≡ program_refusal w bytes.now }
+    ensures { refusal_of (numbered result) ≡ program_refusal w bytes.now }
 {
-    if bytes.len() % w != 0 {
-        return 24;
-    }
-    if MOST_BLOCKS < bytes.len() / w {
-        return 24;
+    if bytes.len() % w != 0 || MOST_BLOCKS < bytes.len() / w {
+        return Err(Refusal::ProgramLength);
     }
     if !are_on_two(bytes, w) {
-        return 25;
+        return Err(Refusal::Qubits);
     }
-    0
+    Ok(())
 }

@@ -1,10 +1,9 @@
 -- Bundles (document 02, P7): "A bundle holds up to 512 sheets end to end, then a trailer pointing back". A bundle is the list of its bytes.
-use Rattle.std.specs.Prelude.{Bool, not, cond, ◌&&◌, ℕ, zero, suc, ◌+◌, ◌*◌, ◌-◌, ◌/◌, ◌%◌, ◌<◌, eqb, leb, ltb, length, get_or, take, drop}
+use Rattle.std.specs.Prelude.{Bool, not, cond, ◌&&◌, ℕ, zero, suc, ◌+◌, ◌*◌, ◌-◌, ◌/◌, ◌%◌, ◌<◌, eqb, leb, ltb, length, get_or, take, drop, Result, Ok, Err}
 use mathlib.Core.List.{List, [], ◌∷◌, ◌++◌, flatten}
 use Rattle.matrix.specs.Range.{every, tabulate}
 use Rattle.file.specs.File.{two_at}
 use Rattle.bundle.specs.declared.Part.{Part}
-use Rattle.bundle.specs.declared.Part.TheVariants.{At, Refused}
 
 -- "up to 512 sheets"
 abbrev pub most_sheets : ℕ
@@ -66,13 +65,13 @@ bundle_refusal b n =
 -- ---- what is handed back
 
 -- where sheet n stands, or the refusal's number
-unfoldable pub part_of : List ℕ → ℕ → Part
-part_of b n = cond (eqb (bundle_refusal b n) 0) (At (offset b n) (length_at b (offset b n))) (Refused (bundle_refusal b n))
+unfoldable pub part_of : List ℕ → ℕ → Result Part ℕ
+part_of b n = cond (eqb (bundle_refusal b n) 0) (Ok (record { start = offset b n; length = length_at b (offset b n) })) (Err (bundle_refusal b n))
 
 -- a place has 16 bits, and a sheet at most 255 less 56 bytes
-abbrev pub Placed : Part → Type 0
-Placed (At start size) = (start < 65536) × (size < 200)
-Placed (Refused r) = Unit {0}
+abbrev pub Placed : Result Part ℕ → Type 0
+Placed (Ok p) = (p.start < 65536) × (p.length < 200)
+Placed (Err r) = Unit {0}
 
 -- "the reader hands back the sheet as that part of the bytes it was given"; "On a refusal the part is empty"
 unfoldable pub sheet_in : List ℕ → ℕ → List ℕ

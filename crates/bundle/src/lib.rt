@@ -2,8 +2,11 @@
 
 #![tactic(auto)]
 
-ghost use Rattle.std.specs.Prelude.{◌≡◌, ◌+◌, ◌*◌, ◌-◌, ◌<◌, ◌≤◌, length, get_or};
+ghost use Rattle.std.specs.Prelude.{◌≡◌, ◌+◌, ◌-◌, ◌<◌, ◌≤◌, length, get_or};
+ghost use Rattle.refusal.specs.Refusal.{numbered, refusal_of};
 ghost use Rattle.bundle.specs.Bundle.{bundle_refusal, has_sheets, offset as Bundle·offset, part_of, place_in, Placed, sheet_count, sheet_in, trailer_length};
+
+use refusal::Refusal;
 
 // The most sheets of a bundle.
 pub const MOST_SHEETS: usize = 512;
@@ -13,22 +16,18 @@ pub const LEAST_FIRST: u8 = 64;
 
 const ABOVE_LENGTH: u8 = 56;
 
-// Where a sheet stands in a bundle: the place of its first byte and its length, or the refusal's number.
-#[derive(Drop)]
-#[derive(Clone, Copy)]
-pub enum Part {
-    At { start: usize, length: usize },
-    Refused(u8),
+// Where a sheet stands in a bundle: the place of its first byte and its length.
+#[derive(Clone, Copy, Debug, PartialEq, Eq)]
+pub struct Part {
+    pub start: usize,
+    pub length: usize,
 }
 
 // The byte at a place, 0 past the end.
 pub fn byte_at(bytes: &[u8], at: usize) -> u8
     ensures { result ≡ get_or bytes.now at 0 }
 {
-    if bytes.len() <= at {
-        return 0;
-    }
-    bytes[at]
+    bytes.get(at).copied().unwrap_or(0)
 }
 
 // The length of a sheet, by its first byte.
@@ -53,8 +52,7 @@ fn has_sheets(bytes: &[u8], count: usize) -> bool
     ensures { result ≡ has_sheets bytes.now }
 {
     let mut at = 0usize;
-    let mut n = 0usize;
-    while n < count {
+    for n in 0..count {
         let first = byte_at(bytes, at);
         if first < LEAST_FIRST {
             return false;
@@ -64,52 +62,52 @@ fn has_sheets(bytes: &[u8], count: usize) -> bool
             return false;
         }
         at += sheet_length(first);
-        n += 1;
     }
     at == bytes.len() - (2 * count + 2)
 }
 
-// The refusal that a bundle and the number of a sheet earn, or 0.
+// Whether a bundle and the number of a sheet earn no refusal.
 // Wrong, and refused: 513 sheets taken; 22 before 21; offsets that are trusted, and not followed from sheet to sheet; a gap before the trailer.
-pub fn bundle_refusal(bytes: &[u8], n: u64) -> u8
-    ensures { result ≡ bundle_refusal bytes.now n }
+pub fn check_bundle(bytes: &[u8], n: u64) -> Result<(), Refusal>
+    ensures { refusal_of (numbered result) ≡ bundle_refusal bytes.now n }
 {
     let len = bytes.len();
     if len < 2 {
-        return 20;
+        return Err(Refusal::Trailer);
     }
     let count = file::two_at(bytes, len - 2);
-    if len < 2 * count + 2 {
-        return 20;
-    }
-    if MOST_SHEETS < count {
-        return 20;
+    if len < 2 * count + 2 || MOST_SHEETS < count {
+        return Err(Refusal::Trailer);
     }
     if !has_sheets(bytes, count) {
-        return 21;
+        return Err(Refusal::Offsets);
     }
     if count as u64 <= n {
-        return 22;
+        return Err(Refusal::SheetNumber);
     }
-    0
+    Ok(())
+}
+
+// The number of the refusal that a bundle and the number of a sheet earn, or 0.
+pub fn bundle_refusal(bytes: &[u8], n: u64) -> u8
+    ensures { result ≡ bundle_refusal bytes.now n }
+{
+    match check_bundle(bytes, n) {
+        Ok(()) => 0,
+        Err(refusal) => refusal.number(),
+    }
 }
 
 // Where sheet n of a bundle stands.
 // Wrong, and refused: the offset of the sheet after; one refusal for all; the place for the length too.
-pub fn bundle_part(bytes: &[u8], n: u64) -> Part
-    ensures { (result ≡ part_of bytes.now n) × Placed result }
+pub fn bundle_part(bytes: &[u8], n: u64) -> Result<Part, Refusal>
+    ensures { (numbered result ≡ part_of bytes.now n) × Placed (numbered result) }
 {
-    let refusal = bundle_refusal(bytes, n);
-    if refusal != 0 {
-        return Part::Refused(refusal);
-    }
+    check_bundle(bytes, n)?;
     let count = file::two_at(bytes, bytes.len() - 2);
     let start = offset(bytes, count, n as usize);
-    let size = sheet_length(bytes[start]);
-    Part::At {
-        start,
-        length: size,
-    }
+    let length = sheet_length(bytes[start]);
+    Ok(Part { start, length })
 }
 
 // Sheet n of a bundle, as a part of the bytes handed in, which points to its place in them; an empty part, at their front, on a refusal.
@@ -117,12 +115,11 @@ pub fn bundle_part(bytes: &[u8], n: u64) -> Part
 pub fn bundle_sheet(bytes: &[u8], n: u64) -> &[u8]
     ensures { (result.now ≡ sheet_in bytes.now n) × (length result.now < 200) × (result.ref_ptr ≡ (bytes.entry.ref_ptr.0, bytes.entry.ref_ptr.1 + place_in bytes.now n)) }
 {
-    let part = bundle_part(bytes, n);
-    match part {
-        Part::At { start, length } => {
-            let end = start + length;
-            &bytes[start..end]
+    match bundle_part(bytes, n) {
+        Ok(part) => {
+            let end = part.start + part.length;
+            &bytes[part.start..end]
         }
-        Part::Refused(_) => &bytes[0..0],
+        Err(_) => &bytes[0..0],
     }
 }

@@ -1,9 +1,7 @@
 -- The bundle of sheets that a lab stores end to end (document 02, P7), and what the call that writes it promises.
-use Rattle.std.specs.Prelude.{Bool, not, cond, ◌&&◌, ◌≡◌, ℕ, suc, ◌+◌, ◌*◌, ◌<◌, eqb, leb, ltb, length}
+use Rattle.std.specs.Prelude.{Bool, not, cond, ◌&&◌, ◌≡◌, ℕ, suc, ◌+◌, ◌*◌, ◌<◌, eqb, leb, ltb, length, Result, Ok, Err}
 use mathlib.Core.List.{List, flatten}
 use Rattle.matrix.specs.Range.{first_from, tabulate}
-use Rattle.file.specs.declared.Wrote.{Wrote}
-use Rattle.file.specs.declared.Wrote.TheVariants.{Bytes, Refused}
 use Rattle.file.specs.File.{written}
 use Rattle.sheet_bytes.specs.Bytes.{shortest, longest}
 use Rattle.bundle.specs.Bundle.{most_sheets, trailer_length, length_at, start_of, bundle_refusal, sheet_in, bundle_of}
@@ -31,18 +29,18 @@ abbrev pub longest_written : ℕ
 longest_written = most_sheets * longest + trailer_length most_sheets
 
 -- the answer, where the lent buffer has n bytes: the refusals of the sheets, and then 6, a buffer that is shorter than the bundle
-unfoldable pub bundle_answer : List ℕ → ℕ → Wrote
+unfoldable pub bundle_answer : List ℕ → ℕ → Result ℕ ℕ
 bundle_answer s n =
     cond (eqb (sheets_refusal s) 0)
-    (cond (ltb n (length (sheets_bundle s))) (Refused 6) (Bytes (length (sheets_bundle s))))
-    (Refused (sheets_refusal s))
+    (cond (ltb n (length (sheets_bundle s))) (Err 6) (Ok (length (sheets_bundle s))))
+    (Err (sheets_refusal s))
 
 -- the buffer afterwards
 unfoldable pub bundle_buffer : List ℕ → List ℕ → List ℕ
 bundle_buffer s old =
     cond (eqb (sheets_refusal s) 0) (cond (ltb (length old) (length (sheets_bundle s))) old (written old (sheets_bundle s))) old
 
-pub record BundlePromise (s old new : List ℕ) (a : Wrote) : Type 0 where
+pub record BundlePromise (s old new : List ℕ) (a : Result ℕ ℕ) : Type 0 where
   pub answer : a ≡ bundle_answer s (length old)
   pub buffer : new ≡ bundle_buffer s old
   -- what is written is read without refusal, and its parts, end to end, are the sheets

@@ -2,58 +2,58 @@
 
 #![tactic(auto)]
 
-ghost use Rattle.std.specs.Prelude.{cond, ◌≡◌, ◌+◌, ◌*◌, ◌<◌, ◌≤◌, length};
+ghost use Rattle.std.specs.Prelude.{Some, None, cond, ◌≡◌, ◌+◌, ◌*◌, ◌<◌, ◌≤◌, length};
 ghost use Rattle.file.specs.File.{Appended};
+ghost use Rattle.refusal.specs.Refusal.{numbered};
 ghost use Rattle.bundle.specs.Bundle.{most_sheets, trailer_length, length_at, start_of, two_bytes, offsets, bundle_of};
 ghost use Rattle.bundle_write.specs.Writing.{is_whole, stored_count, BundlePromise};
 
-use file::Wrote;
+use refusal::Refusal;
 
 // The most bytes of a bundle that is written: for each sheet its own and two of its offset, and two of the number of sheets.
 pub const LONGEST_BUNDLE: usize = bundle::MOST_SHEETS * (sheet_bytes::LONGEST + 2) + 2;
 
+// The most sheets that are counted: one more than a bundle holds.
+const MOST_COUNTED: usize = bundle::MOST_SHEETS + 1;
+
 // How many whole sheets stand end to end from the front on, and where they end.
-#[derive(Drop)]
-#[derive(Clone, Copy)]
+#[derive(Clone, Copy, Debug, PartialEq, Eq)]
 struct Stored {
     count: usize,
     end: usize,
 }
 
-// Where the sheet at a place ends; 0 if no whole sheet stands there.
-fn sheet_end(sheets: &[u8], at: usize) -> usize
+// Where the sheet at a place ends, if a whole sheet stands there.
+fn sheet_end(sheets: &[u8], at: usize) -> Option<usize>
     requires { at ≤ length sheets.now }
-    ensures { result ≡ cond (is_whole sheets.now at) (at + length_at sheets.now at) 0 }
+    ensures { result ≡ cond (is_whole sheets.now at) (Some (at + length_at sheets.now at)) None }
 {
     let first = bundle::byte_at(sheets, at);
     if first < bundle::LEAST_FIRST {
-        return 0;
+        return None;
     }
     let size = bundle::sheet_length(first);
-    if sheet_bytes::LONGEST < size {
-        return 0;
+    if sheet_bytes::LONGEST < size || sheets.len() - at < size {
+        return None;
     }
-    if sheets.len() - at < size {
-        return 0;
-    }
-    at + size
+    Some(at + size)
 }
 
 // The whole sheets that stand end to end, up to one more than a bundle holds.
 fn count_sheets(sheets: &[u8]) -> Stored
     ensures { (result.count ≡ stored_count sheets.now) × (result.end ≡ start_of sheets.now (stored_count sheets.now)) }
 {
-    let mut count = 0usize;
     let mut end = 0usize;
-    while count <= bundle::MOST_SHEETS {
-        let next = sheet_end(sheets, end);
-        if next == 0 {
+    for count in 0..MOST_COUNTED {
+        let Some(next) = sheet_end(sheets, end) else {
             return Stored { count, end };
-        }
+        };
         end = next;
-        count += 1;
     }
-    Stored { count, end }
+    Stored {
+        count: MOST_COUNTED,
+        end,
+    }
 }
 
 // 16 bits, low byte first.
@@ -71,13 +71,9 @@ fn write_offsets(sheets: &[u8], count: usize, out: &mut [u8], at: usize) -> usiz
 {
     let mut next = at;
     let mut start = 0usize;
-    let mut n = 0usize;
-    while n < count {
-        let after = write_two(start, out, next);
-        next = after;
-        let end = sheet_end(sheets, start);
-        start = end;
-        n += 1;
+    for n in 0..count {
+        next = write_two(start, out, next);
+        start = sheet_end(sheets, start).unwrap();
     }
     next
 }
@@ -95,19 +91,19 @@ fn write_bundle(sheets: &[u8], count: usize, out: &mut [u8]) -> usize
 // Sheets that are stored end to end into a bundle at the front of `out`.
 // Wrong, and refused: a sheet of 69 bytes, or one that is cut short, taken; what follows the sheets left out; the numbers of the sheets for their
 // offsets; no number at the end; 22 for more than 512 sheets.
-pub fn sheets_to_bundle(sheets: &[u8], out: &mut [u8]) -> Wrote
-    ensures { BundlePromise sheets.now out.old out.new result }
+pub fn sheets_to_bundle(sheets: &[u8], out: &mut [u8]) -> Result<usize, Refusal>
+    ensures { BundlePromise sheets.now out.old out.new (numbered result) }
 {
     let found = count_sheets(sheets);
     let count = found.count;
     if bundle::MOST_SHEETS < count {
-        return Wrote::Refused(20);
+        return Err(Refusal::Trailer);
     }
     if found.end != sheets.len() {
-        return Wrote::Refused(21);
+        return Err(Refusal::Offsets);
     }
     if out.len() < sheets.len() + (2 * count + 2) {
-        return Wrote::Refused(6);
+        return Err(Refusal::Buffer);
     }
-    Wrote::Bytes(write_bundle(sheets, count, out))
+    Ok(write_bundle(sheets, count, out))
 }

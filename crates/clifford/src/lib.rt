@@ -11,8 +11,7 @@ fn column_byte(m: [i64; 36], c: usize) -> u8
     requires { c < 6 }
     ensures { result ≡ column_byte (entry m) c }
 {
-    let mut r = 0u8;
-    while r < 6 {
+    for r in 0u8..6 {
         let x = m[(r as usize) * 6 + c];
         if x == 1 {
             return r + 1;
@@ -20,7 +19,6 @@ fn column_byte(m: [i64; 36], c: usize) -> u8
         if x != 0 {
             return r + 129;
         }
-        r += 1;
     }
     135
 }
@@ -29,38 +27,21 @@ fn column_byte(m: [i64; 36], c: usize) -> u8
 pub fn columns_of(m: [i64; 36]) -> [u8; 6]
     ensures { result ≡ column_bytes (entry m) }
 {
-    let mut columns = [0u8; 6];
-    let mut c = 0usize;
-    while c < 6 {
-        columns[c] = column_byte(m, c);
-        c += 1;
-    }
-    columns
+    std::array::from_fn(|c| column_byte(m, c))
 }
 
 // Whether a byte is a column's.
 fn is_column_byte(b: u8) -> bool
     ensures { result ≡ is_column_byte b }
 {
-    if b < 129 {
-        return 1 <= b && b <= 6;
-    }
-    b <= 134
+    matches!(b, 1..=6 | 129..=134)
 }
 
 // Whether all six bytes are columns'.
 pub fn are_column_bytes(columns: [u8; 6]) -> bool
     ensures { result ≡ are_column_bytes columns }
 {
-    let mut good = true;
-    let mut c = 6usize;
-    while 0 < c {
-        c -= 1;
-        if !is_column_byte(columns[c]) {
-            good = false;
-        }
-    }
-    good
+    columns.iter().all(|b| is_column_byte(*b))
 }
 
 // The row of a column byte's entry, counted from 0.
@@ -102,28 +83,12 @@ fn row_differs(columns: [u8; 6], c: usize) -> bool
     ensures { result ≡ differs (row_of (get_or columns c 0)) (map row_of (drop (c + 1) columns)) }
 {
     let row = row_of(columns[c]);
-    let mut good = true;
-    let mut d = 6usize;
-    while c + 1 < d {
-        d -= 1;
-        if row == row_of(columns[d]) {
-            good = false;
-        }
-    }
-    good
+    columns[c + 1..].iter().all(|b| row != row_of(*b))
 }
 
 // Whether no two columns have one row.
 pub fn rows_differ(columns: [u8; 6]) -> bool
     ensures { result ≡ different (map row_of columns) }
 {
-    let mut good = true;
-    let mut c = 6usize;
-    while 0 < c {
-        c -= 1;
-        if !row_differs(columns, c) {
-            good = false;
-        }
-    }
-    good
+    (0..6).all(|c| row_differs(columns, c))
 }

@@ -6,7 +6,6 @@ ghost use Rattle.io.specs.Counts.{IsPrefixLen};
 ghost use Rattle.file.specs.File.{Appended};
 ghost use Rattle.cut.specs.Output.{cut_text};
 
-use operator::Cuts;
 use std::io::Result;
 
 // The text for a file, at the front of `out`.
@@ -14,15 +13,14 @@ fn answer(file: &[u8], out: &mut [u8; 512]) -> usize
     ensures { Appended (cut_text file.now) 0 out.old out.new result × IsPrefixLen result out.new }
 {
     let mut sheet = [0u8; sheet_bytes::LONGEST];
-    let answer = operator::operator_to_sheet(file, &mut sheet);
-    match answer {
-        Cuts::Taken { count, loose } => {
-            let end = count as usize + sheet_bytes::SHORTEST;
-            let second = line::write_count(count, out, 0);
+    match operator::operator_to_sheet(file, &mut sheet) {
+        Ok(cuts) => {
+            let end = cuts.count as usize + sheet_bytes::SHORTEST;
+            let second = line::write_count(cuts.count, out, 0);
             let third = line::write_sheet(&sheet[..end], out, second);
-            line::write_loose(loose, out, third)
+            line::write_loose(cuts.loose, out, third)
         }
-        Cuts::Refused(refusal) => line::write_refused(refusal, out, 0),
+        Err(refusal) => line::write_refused(refusal.number(), out, 0),
     }
 }
 

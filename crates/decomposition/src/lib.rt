@@ -38,10 +38,7 @@ fn part_inverse(part: usize) -> [u8; 6]
 fn low_bit(b: u8) -> usize
     ensures { (result ≡ bit (is_low b)) × (result < 2) }
 {
-    if clifford::row_of(b) < 3 {
-        return 1;
-    }
-    0
+    (clifford::row_of(b) < 3) as usize
 }
 
 // Which of three columns from column c on have their entry in rows 1 to 3.
@@ -66,20 +63,14 @@ pub fn local_columns(columns: [u8; 6]) -> [u8; 6]
 fn inversion(a: u8, b: u8) -> usize
     ensures { (result ≡ bit (ltb (row_of b) (row_of a))) × (result < 2) }
 {
-    if clifford::row_of(b) < clifford::row_of(a) {
-        return 1;
-    }
-    0
+    (clifford::row_of(b) < clifford::row_of(a)) as usize
 }
 
 // 1 where a column's entry is −1.
 fn minus(b: u8) -> usize
     ensures { (result ≡ bit (is_minus b)) × (result < 2) }
 {
-    if 129 <= b {
-        return 1;
-    }
-    0
+    (129 <= b) as usize
 }
 
 // Whether three columns of one half have determinant 1.
@@ -96,11 +87,7 @@ fn axis_number(even: bool, b: u8) -> usize
     ensures { (result ≡ axis_number even b) × (result < 6) }
 {
     let row = (clifford::row_of(b) % 3) as usize;
-    if 129 <= b {
-        if even { row + 3 } else { row }
-    } else {
-        if even { row } else { row + 3 }
-    }
+    if (129 <= b) == even { row + 3 } else { row }
 }
 
 // The row of the rotation table.

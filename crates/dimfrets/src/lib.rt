@@ -13,7 +13,7 @@ ghost use Rattle.bundle.specs.Bundle.{part_of};
 ghost use Rattle.bundle_write.specs.Writing.{BundlePromise};
 ghost use Rattle.qasm.specs.Promise.{TextPromise, LettersPromise};
 ghost use Rattle.layer.specs.Promise.{LayerPromise};
-ghost use Rattle.answer_word.specs.Encoding.{answer_parts, cuts_parts, listed_parts, synthesis_parts, wrote_parts, part_parts, WordOf, Encodes};
+ghost use Rattle.answer_word.specs.Encoding.{answer_parts, cuts_parts, listed_parts, synthesis_parts, part_parts, WordOf, Encodes};
 
 // An operator file into a sheet.
 #[unsafe(no_mangle)]
@@ -73,7 +73,7 @@ pub extern "C" fn dimfrets_bundle_sheet(input: &[u8], n: u64) -> u64
 // Sheets that are stored end to end into a bundle.
 #[unsafe(no_mangle)]
 pub extern "C" fn dimfrets_sheets_to_bundle(input: &[u8], output: &mut [u8]) -> u64
-    ensures { Encodes wrote_parts (BundlePromise input.now output.old output.new) result }
+    ensures { Encodes answer_parts (BundlePromise input.now output.old output.new) result }
 {
     let answer = bundle_write::sheets_to_bundle(input, output);
     answer_word::encode_wrote(answer)
@@ -82,7 +82,7 @@ pub extern "C" fn dimfrets_sheets_to_bundle(input: &[u8], output: &mut [u8]) -> 
 // A gate list into OpenQASM 2.0 text.
 #[unsafe(no_mangle)]
 pub extern "C" fn dimfrets_gates_to_qasm(input: &[u8], output: &mut [u8]) -> u64
-    ensures { Encodes wrote_parts (TextPromise input.now output.old output.new) result }
+    ensures { Encodes answer_parts (TextPromise input.now output.old output.new) result }
 {
     let answer = qasm::gates_to_qasm(input, output);
     answer_word::encode_wrote(answer)
@@ -91,7 +91,7 @@ pub extern "C" fn dimfrets_gates_to_qasm(input: &[u8], output: &mut [u8]) -> u64
 // OpenQASM 2.0 text into a gate list.
 #[unsafe(no_mangle)]
 pub extern "C" fn dimfrets_qasm_to_gates(input: &[u8], output: &mut [u8]) -> u64
-    ensures { Encodes wrote_parts (LettersPromise input.now output.old output.new) result }
+    ensures { Encodes answer_parts (LettersPromise input.now output.old output.new) result }
 {
     let answer = qasm_read::qasm_to_gates(input, output);
     answer_word::encode_wrote(answer)

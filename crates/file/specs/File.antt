@@ -1,9 +1,8 @@
 -- Operator files (document 01, "Operators"; document 02, P10), and what an output buffer holds. A file is the list of its bytes.
-use Rattle.std.specs.Prelude.{Bool, cond, ◌||◌, List, ◌++◌, ◌≡◌, ℕ, zero, suc, ◌+◌, ◌*◌, ◌-◌, ◌/◌, ◌%◌, ◌^◌, ◌<◌, ◌≤◌, eqb, ltb, ℤ, pos, negsuc, nat_abs, ◌-ℤ◌, length, get_or, take, drop, replicate}
+use Rattle.std.specs.Prelude.{Bool, cond, ◌||◌, List, ◌++◌, ◌≡◌, ℕ, zero, suc, ◌+◌, ◌*◌, ◌-◌, ◌/◌, ◌%◌, ◌^◌, ◌<◌, ◌≤◌, eqb, ltb, ℤ, pos, negsuc, nat_abs, ◌-ℤ◌, length, get_or, take, drop}
 use Rattle.matrix.specs.Range.{tabulate}
 use Rattle.matrix.specs.Matrix.{entry}
 use Rattle.matrix.specs.Operator.{Operator, operator}
-use Rattle.file.specs.declared.Read.{Read}
 
 -- ---- the two kinds of file
 
@@ -122,12 +121,6 @@ file_of k m = file_as (kind_for k) k m
 
 abbrev pub length_for : ℕ → ℕ
 length_for k = length_of (kind_for k)
-
--- ---- what is read
-
--- a refusal, with no operator beside it
-abbrev pub no_operator : ℕ → Read
-no_operator n = record { refusal = n; exponent = 0; matrix = replicate 36 (pos 0) }
 
 -- ---- an output buffer
 

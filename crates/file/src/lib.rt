@@ -5,7 +5,9 @@
 
 ghost use Rattle.std.specs.Prelude.{◌≡◌, ◌+◌, ◌*◌, ◌^◌, ◌<◌, ◌≤◌, nat_abs, length};
 ghost use Rattle.matrix.specs.Range.{tabulate};
-ghost use Rattle.file.specs.File.{Appended, Fits, short_file, long_file, bits_of, byte_of, entry_of, exponent_of, file_as, file_matrix, file_of, is_length, kind_for, kind_of, length_for, length_of, long_length, no_operator, short_length, signed_of, two_at, written};
+ghost use Rattle.file.specs.File.{Appended, Fits, short_file, long_file, bits_of, byte_of, entry_of, exponent_of, file_matrix, file_of, is_length, kind_for, kind_of, length_for, length_of, signed_of, two_at, written};
+
+use std::array;
 
 // The bytes of a short operator file and of a long one.
 pub const SHORT_LENGTH: usize = 73;
@@ -16,42 +18,6 @@ pub const LONG_LENGTH: usize = 145;
 pub const SHORT_EXPONENT: u8 = 28;
 
 pub const LARGEST_EXPONENT: u8 = 60;
-
-// What a call answers (document 01): "the count or the refusal's number, never both".
-#[derive(Drop)]
-#[derive(Clone, Copy)]
-pub enum Answer {
-    Count(u8),
-    Refused(u8),
-}
-
-// What a call that writes as many bytes as its input calls for answers: how many these are, or the refusal's number.
-#[derive(Drop)]
-#[derive(Clone, Copy)]
-pub enum Wrote {
-    Bytes(usize),
-    Refused(u8),
-}
-
-// What reading a gate list or a sheet gives: the number of a refusal, or 0 and an operator at its least exponent.
-#[derive(Drop)]
-#[derive(Clone, Copy)]
-pub struct Read {
-    pub refusal: u8,
-    pub exponent: u8,
-    pub matrix: [i64; 36],
-}
-
-// A refusal, with no operator beside it.
-pub fn refused(refusal: u8) -> Read
-    ensures { result ≡ no_operator refusal }
-{
-    Read {
-        refusal,
-        exponent: 0,
-        matrix: [0; 36],
-    }
-}
 
 // Whether an operator file may have so many bytes.
 pub fn is_length(length: usize) -> bool
@@ -145,13 +111,7 @@ pub fn decode(bytes: &[u8]) -> [i64; 36]
     requires { length bytes.now ≡ length_of (kind_of (length bytes.now)) }
     ensures { result ≡ file_matrix bytes.now }
 {
-    let mut m = [0i64; 36];
-    let mut n = 0usize;
-    while n < 36 {
-        m[n] = entry_at(bytes, n);
-        n += 1;
-    }
-    m
+    array::from_fn(|n| entry_at(bytes, n))
 }
 
 // The bits of x in two's complement, where the highest of them is worth `highest`.
@@ -171,37 +131,9 @@ fn write_number(u: usize, width: usize, out: &mut [u8], at: usize)
     ensures { Appended (tabulate (byte_of u) 0 width) at out.old out.new (at + width) }
 {
     let mut rest = u;
-    let mut n = 0usize;
-    while n < width {
+    for n in 0..width {
         out[at + n] = (rest % 256) as u8;
-        rest = rest / 256;
-        n += 1;
-    }
-}
-
-// The short file of (k, m) at the front of `out`; the bytes past it stay.
-fn encode_short(k: u8, m: [i64; 36], out: &mut [u8])
-    requires { (short_length ≤ length out.old) × Fits short_file m }
-    ensures { out.new ≡ written out.old (file_as short_file k m) }
-{
-    out[0] = k;
-    let mut n = 0usize;
-    while n < 36 {
-        write_number(unsigned(m[n], SHORT_HIGHEST), 2, out, 1 + 2 * n);
-        n += 1;
-    }
-}
-
-// The long file.
-fn encode_long(k: u8, m: [i64; 36], out: &mut [u8])
-    requires { (long_length ≤ length out.old) × Fits long_file m }
-    ensures { out.new ≡ written out.old (file_as long_file k m) }
-{
-    out[0] = k;
-    let mut n = 0usize;
-    while n < 36 {
-        write_number(unsigned(m[n], LONG_HIGHEST), 4, out, 1 + 4 * n);
-        n += 1;
+        rest /= 256;
     }
 }
 
@@ -210,9 +142,13 @@ pub fn encode(k: u8, m: [i64; 36], out: &mut [u8])
     requires { (length_for k ≤ length out.old) × Fits (kind_for k) m }
     ensures { out.new ≡ written out.old (file_of k m) }
 {
-    if k <= SHORT_EXPONENT {
-        encode_short(k, m, out);
+    let (width, highest) = if k <= SHORT_EXPONENT {
+        (2, SHORT_HIGHEST)
     } else {
-        encode_long(k, m, out);
+        (4, LONG_HIGHEST)
+    };
+    out[0] = k;
+    for n in 0..36 {
+        write_number(unsigned(m[n], highest), width, out, 1 + width * n);
     }
 }

@@ -1,11 +1,8 @@
 -- What the call from a gate list to an operator file promises.
-use Rattle.std.specs.Prelude.{◌≡◌, List, ◌∷◌, ◌++◌, map, ℕ, ◌<◌, length, take}
+use Rattle.std.specs.Prelude.{◌≡◌, List, ◌∷◌, ◌++◌, map, ℕ, ◌<◌, length, take, None, Result, Err}
 use Rattle.matrix.specs.Operator.{LeastExponent}
-use Rattle.file.specs.declared.Answer.{Answer}
-use Rattle.file.specs.declared.Answer.TheVariants.{Refused}
 use Rattle.file.specs.File.{largest_exponent, file_exponent, file_operator}
 use Rattle.letter.specs.declared.Gate.{Gate}
-use Rattle.letter.specs.declared.Letter.TheVariants.{Unknown}
 use Rattle.letter.specs.Gate.{letter, gate_of}
 use Rattle.gate.specs.Product.{product_of, MultipliesTo}
 use Rattle.gate.specs.Reading.{gates, least_of, product_file, reading, operator_answer, operator_buffer}
@@ -45,13 +42,13 @@ pub record EarnsEight (bs : List ℕ) : Type 0 where
   pub rest : List ℕ
   pub beginning : Beginning bs w (byte ∷ rest)
   pub shallow : Deep w → ⊥
-  pub unknown : gate_of byte ≡ Unknown
+  pub unknown : gate_of byte ≡ None
 
-pub record ProductPromise (bs old new : List ℕ) (a : Answer) : Type 0 where
+pub record ProductPromise (bs old new : List ℕ) (a : Result ℕ ℕ) : Type 0 where
   pub answer : a ≡ operator_answer (length old) (reading bs)
   pub buffer : new ≡ operator_buffer old (reading bs)
   -- of a list that is read: what is written is its product
   pub read : (w : List Gate) → reading bs ≡ gates w → ReadInto bs w
   -- "8 or 9 at the leftmost place that earns one"
-  pub eight : a ≡ Refused 8 → EarnsEight bs
-  pub nine : a ≡ Refused 9 → EarnsNine bs
+  pub eight : a ≡ Err 8 → EarnsEight bs
+  pub nine : a ≡ Err 9 → EarnsNine bs

@@ -1,15 +1,11 @@
 -- Gate lists read into operators (document 01, "The writer of a gate list").
-use Rattle.std.specs.Prelude.{cond, ◌≡◌, List, [], ◌∷◌, ◌++◌, ℕ, ◌+◌, ◌*◌, ◌≤◌, ltb, length}
+use Rattle.std.specs.Prelude.{cond, ◌≡◌, List, [], ◌∷◌, ◌++◌, ℕ, ◌+◌, ◌*◌, ◌≤◌, ltb, length, Option, Some, None, Result, Ok, Err}
 use Rattle.matrix.specs.Matrix.{listed}
-use Rattle.matrix.specs.Array.{Least, least_form}
-use Rattle.file.specs.declared.Answer.{Answer}
-use Rattle.file.specs.declared.Answer.TheVariants.{Count, Refused}
+use Rattle.matrix.specs.declared.Least.{Least}
+use Rattle.matrix.specs.Array.{least_form}
 use Rattle.file.specs.File.{largest_exponent, length_for, file_of, written}
 use Rattle.letter.specs.declared.Gate.{Gate}
-use Rattle.letter.specs.declared.Letter.{Letter}
-use Rattle.letter.specs.declared.Letter.TheVariants.{Is, Unknown}
 use Rattle.letter.specs.Gate.{gate_of}
-use Rattle.file.specs.declared.Read.{Read}
 use Rattle.gate.specs.Product.{product_of}
 
 -- "7 says 16,384" (document 02, P10)
@@ -31,9 +27,9 @@ pub data Reading : Type 0 where
 
 -- one letter behind the gates w: 8, "a byte that is no letter of the table", or 9, "a beginning of the list whose product has a least
 -- exponent above" 60, or go on
-abbrev pub read_letter : List Gate → (List Gate → Reading) → Letter → Reading
-read_letter w rest Unknown = refusal 8
-read_letter w rest (Is g) = cond (ltb largest_exponent (least_of (w ++ g ∷ [])).exponent) (refusal 9) (rest (w ++ g ∷ []))
+abbrev pub read_letter : List Gate → (List Gate → Reading) → Option Gate → Reading
+read_letter w rest None = refusal 8
+read_letter w rest (Some g) = cond (ltb largest_exponent (least_of (w ++ g ∷ [])).exponent) (refusal 9) (rest (w ++ g ∷ []))
 
 -- "8 or 9 at the leftmost place that earns one"
 unfoldable pub read_from : List Gate → List ℕ → Reading
@@ -45,18 +41,18 @@ unfoldable pub reading : List ℕ → Reading
 reading bs = cond (ltb largest_list (length bs)) (refusal 7) (read_from [] bs)
 
 -- what is kept of a reading
-abbrev pub ReadAs : Reading → Read → Type 0
-ReadAs (gates w) r = (r.refusal ≡ 0) × (r.exponent ≡ (least_of w).exponent) × (r.matrix ≡ (least_of w).matrix) × ((least_of w).exponent ≤ largest_exponent)
-ReadAs (refusal n) r = (r.refusal ≡ n) × (1 ≤ n)
+abbrev pub ReadAs : Reading → Result Least ℕ → Type 0
+ReadAs (gates w) r = (r ≡ Ok (least_of w)) × ((least_of w).exponent ≤ largest_exponent)
+ReadAs (refusal n) r = r ≡ Err n
 
 -- the operator file of a list's product
 abbrev pub product_file : List Gate → List ℕ
 product_file w = file_of (least_of w).exponent (least_of w).matrix
 
 -- the answer, where the lent buffer has n bytes: "6 follows the file written"
-abbrev pub operator_answer : ℕ → Reading → Answer
-operator_answer n (gates w) = cond (ltb n (length_for (least_of w).exponent)) (Refused 6) (Count (least_of w).exponent)
-operator_answer n (refusal r) = Refused r
+abbrev pub operator_answer : ℕ → Reading → Result ℕ ℕ
+operator_answer n (gates w) = cond (ltb n (length_for (least_of w).exponent)) (Err 6) (Ok (least_of w).exponent)
+operator_answer n (refusal r) = Err r
 
 -- the buffer afterwards
 abbrev pub operator_buffer : List ℕ → Reading → List ℕ

@@ -1,16 +1,13 @@
 -- A list read a stretch at a time: the Clifford letters up to a letter C, a byte that is no letter, or the end.
-use Rattle.std.specs.Prelude.{◌≡◌, true, false, not, cond, List, ◌++◌, ℕ, ◌+◌, ◌≤◌, ◌<◌, ltb, ℤ, length, get_or, drop}
+use Rattle.std.specs.Prelude.{◌≡◌, true, cond, List, ◌++◌, ℕ, ◌+◌, ◌≤◌, ◌<◌, ltb, ℤ, length, get_or, drop, Option, Some, None, Result, Ok, Err}
 use Rattle.matrix.specs.Matrix.{entry, listed, product}
-use Rattle.matrix.specs.Array.{Least, least_form}
-use Rattle.file.specs.File.{largest_exponent, no_operator}
+use Rattle.matrix.specs.declared.Least.{Least}
+use Rattle.matrix.specs.Array.{least_form}
+use Rattle.file.specs.File.{largest_exponent}
 use Rattle.clifford.specs.Columns.{columns_matrix, are_permutation}
 use Rattle.letter.specs.declared.Gate.{Gate}
-use Rattle.letter.specs.declared.Letter.{Letter}
-use Rattle.letter.specs.declared.Letter.TheVariants.{Is, Unknown}
 use Rattle.letter.specs.Gate.{is_cs, gate_of}
 use Rattle.letter.specs.Composition.{composed_gate, identity_columns}
-use Rattle.file.specs.declared.Read.{Read}
-use Rattle.gate.specs.declared.Composed.{Composed}
 use Rattle.gate.specs.declared.Stretch.{Stretch}
 use Rattle.gate.specs.Product.{image}
 use Rattle.gate.specs.Reading.{least_of, read_from}
@@ -23,15 +20,15 @@ times_columns m bs = listed (product 6 (entry m) (columns_matrix bs))
 abbrev pub held : ℕ → List ℤ → List ℕ → Least
 held k m bs = record { exponent = k; matrix = times_columns m bs }
 
--- what a byte does to the columns of the Clifford letters before it
-abbrev pub ComposedWith : List ℕ → Letter → Composed → Type 0
-ComposedWith bs Unknown r = r.clifford ≡ false
-ComposedWith bs (Is g) r = (r.clifford ≡ not (is_cs g)) × (r.columns ≡ composed_gate bs g)
+-- the columns of the Clifford letters before a byte with its letter, where it is one more of them
+abbrev pub composed_letter : List ℕ → Option Gate → Option (List ℕ)
+composed_letter bs None = None
+composed_letter bs (Some g) = cond (is_cs g) None (Some (composed_gate bs g))
 
 -- a byte that is no Clifford letter
-abbrev pub EndsStretch : Letter → Type 0
-EndsStretch Unknown = Unit {0}
-EndsStretch (Is g) = is_cs g ≡ true
+abbrev pub EndsStretch : Option Gate → Type 0
+EndsStretch None = Unit {0}
+EndsStretch (Some g) = is_cs g ≡ true
 
 -- the Clifford letters of the list bs from `at` up to `next` have these columns
 pub record CliffordLetters (bs : List ℕ) (at : ℕ) (columns : List ℕ) (next : ℕ) : Type 0 where
@@ -54,9 +51,7 @@ pub record StretchOf (bs : List ℕ) (at : ℕ) (r : Stretch) : Type 0 where
 unfoldable pub multiplied : ℕ → List ℤ → Gate → Least
 multiplied k m g = least_form (k + (image g).exponent) (listed (product 6 (entry m) (image g).matrix))
 
--- one letter behind the product (k, m); refusal 0 is none
-abbrev pub read_byte : ℕ → List ℤ → Letter → Read
-read_byte k m Unknown = no_operator 8
-read_byte k m (Is g) =
-    cond (ltb largest_exponent (multiplied k m g).exponent) (no_operator 9)
-    (record { refusal = 0; exponent = (multiplied k m g).exponent; matrix = (multiplied k m g).matrix })
+-- one letter behind the product (k, m)
+abbrev pub read_byte : ℕ → List ℤ → Option Gate → Result Least ℕ
+read_byte k m None = Err 8
+read_byte k m (Some g) = cond (ltb largest_exponent (multiplied k m g).exponent) (Err 9) (Ok (multiplied k m g))

@@ -6,44 +6,31 @@
 #![tactic(auto)]
 
 ghost use Rattle.std.specs.Prelude.{◌≡◌, true, [], ◌≤◌, length};
+ghost use Rattle.refusal.specs.Refusal.{numbered};
 ghost use Rattle.matrix.specs.Matrix.{entry};
 ghost use Rattle.matrix.specs.Operator.{operator, Orthogonal};
 ghost use Rattle.clifford.specs.Columns.{are_permutation};
 ghost use Rattle.file.specs.File.{largest_exponent};
 ghost use Rattle.letter.specs.Gate.{gate_of};
 ghost use Rattle.gate.specs.Reading.{ReadAs, read_from};
-ghost use Rattle.gate.specs.Stretch.{ComposedWith, EndsStretch, StretchOf, times_columns, read_byte};
+ghost use Rattle.gate.specs.Stretch.{composed_letter, EndsStretch, StretchOf, times_columns, read_byte};
 ghost use Rattle.gate.specs.Promise.{ProductPromise};
 
-use file::{Answer, Read};
-use letter::Letter;
+use matrix::Least;
+use refusal::Refusal;
 
-// A byte behind Clifford letters: whether it is one more of them, and the columns of their product.
-#[derive(Drop)]
-#[derive(Clone, Copy)]
-pub struct Composed {
-    pub clifford: bool,
-    pub columns: [u8; 6],
-}
-
-// The columns of a Clifford with the letter of byte b behind it.
-fn compose_byte(columns: [u8; 6], b: u8) -> Composed
-    ensures { ComposedWith columns (gate_of b) result }
+// The columns of a Clifford with the letter of byte b behind it; none where b is no Clifford letter.
+fn compose_byte(columns: [u8; 6], b: u8) -> Option<[u8; 6]>
+    ensures { result ≡ composed_letter columns (gate_of b) }
 {
-    match letter::gate_of(b) {
-        Letter::Is(g) => Composed {
-            clifford: !letter::is_cs(g),
-            columns: letter::compose_gate(columns, g),
-        },
-        Letter::Unknown => Composed {
-            clifford: false,
-            columns,
-        },
+    let g = letter::gate_of(b)?;
+    if letter::is_cs(g) {
+        return None;
     }
+    Some(letter::compose_gate(columns, g))
 }
 
 // The Clifford letters from a place on: the columns of their product, and the place after them.
-#[derive(Drop)]
 #[derive(Clone, Copy)]
 pub struct Stretch {
     pub columns: [u8; 6],
@@ -56,72 +43,54 @@ fn read_stretch(letters: &[u8], at: usize) -> Stretch
     ensures { StretchOf letters.now at result }
 {
     let mut columns = [1u8, 2, 3, 4, 5, 6];
-    let mut n = at;
-    while n < letters.len() {
-        let next = compose_byte(columns, letters[n]);
-        if !next.clifford {
-            return Stretch { columns, next: n };
+    for next in at..letters.len() {
+        match compose_byte(columns, letters[next]) {
+            Some(more) => columns = more,
+            None => return Stretch { columns, next },
         }
-        columns = next.columns;
-        n += 1;
     }
-    Stretch { columns, next: n }
+    Stretch {
+        columns,
+        next: letters.len(),
+    }
 }
 
 // The byte that ends a stretch, behind a product (k, m) and the stretch's columns.
-fn read_letter(k: u8, m: [i64; 36], columns: [u8; 6], b: u8) -> Read
+fn read_letter(k: u8, m: [i64; 36], columns: [u8; 6], b: u8) -> Result<Least, Refusal>
     requires { (k ≤ largest_exponent) × Orthogonal (operator k (entry m)) × (are_permutation columns ≡ true) × EndsStretch (gate_of b) }
-    ensures { result ≡ read_byte k (times_columns m columns) (gate_of b) }
+    ensures { numbered result ≡ read_byte k (times_columns m columns) (gate_of b) }
 {
     if b != b'C' {
-        return file::refused(8);
+        return Err(Refusal::Letter);
     }
     let before = times::times_columns(m, columns);
     let mut matrix = times::times_cs(before);
     let exponent = matrix::least_form(k + 1, &mut matrix);
     if file::LARGEST_EXPONENT < exponent {
-        return file::refused(9);
+        return Err(Refusal::ProductExponent);
     }
-    Read {
-        refusal: 0,
-        exponent,
-        matrix,
-    }
+    Ok(Least { exponent, matrix })
 }
 
 // The letters from the left on, a stretch and the letter behind it a turn.
-fn read_letters(letters: &[u8]) -> Read
-    ensures { ReadAs (read_from [] letters.now) result }
+fn read_letters(letters: &[u8]) -> Result<Least, Refusal>
+    ensures { ReadAs (read_from [] letters.now) (numbered result) }
 {
-    let mut k = 0u8;
-    let mut m = times::identity();
-    let mut n = 0usize;
+    let mut exponent = 0;
+    let mut matrix = times::identity();
+    let mut n = 0;
     while n < letters.len() {
         let stretch = read_stretch(letters, n);
-        let next = stretch.next;
-        let columns = stretch.columns;
-        if letters.len() <= next {
-            let matrix = times::times_columns(m, columns);
-            return Read {
-                refusal: 0,
-                exponent: k,
-                matrix,
-            };
+        if letters.len() <= stretch.next {
+            let matrix = times::times_columns(matrix, stretch.columns);
+            return Ok(Least { exponent, matrix });
         }
-        let read = read_letter(k, m, columns, letters[next]);
-        let refusal = read.refusal;
-        if refusal != 0 {
-            return read;
-        }
-        k = read.exponent;
-        m = read.matrix;
-        n = next + 1;
+        let product = read_letter(exponent, matrix, stretch.columns, letters[stretch.next])?;
+        exponent = product.exponent;
+        matrix = product.matrix;
+        n = stretch.next + 1;
     }
-    Read {
-        refusal: 0,
-        exponent: k,
-        matrix: m,
-    }
+    Ok(Least { exponent, matrix })
 }
 
 // The most letters of a gate list.
@@ -133,22 +102,16 @@ pub const GATES_BUFFER: usize = 256 * (file::LARGEST_EXPONENT as usize + 1);
 // A gate list into an operator file at the front of `out`.
 // Wrong, and refused: 9 at a beginning whose least exponent is 29, or 60; the product at another exponent than its least one; a buffer of 73
 // bytes taken for a long file.
-pub fn gates_to_operator(letters: &[u8], out: &mut [u8]) -> Answer
-    ensures { ProductPromise letters.now out.old out.new result }
+pub fn gates_to_operator(letters: &[u8], out: &mut [u8]) -> Result<u8, Refusal>
+    ensures { ProductPromise letters.now out.old out.new (numbered result) }
 {
     if LARGEST_LIST < letters.len() {
-        return Answer::Refused(7);
+        return Err(Refusal::ListLength);
     }
-    let product = read_letters(letters);
-    let refusal = product.refusal;
-    if refusal != 0 {
-        return Answer::Refused(refusal);
+    let product = read_letters(letters)?;
+    if out.len() < file::length_for(product.exponent) {
+        return Err(Refusal::Buffer);
     }
-    let exponent = product.exponent;
-    let matrix = product.matrix;
-    if out.len() < file::length_for(exponent) {
-        return Answer::Refused(6);
-    }
-    file::encode(exponent, matrix, out);
-    Answer::Count(exponent)
+    file::encode(product.exponent, product.matrix, out);
+    Ok(product.exponent)
 }

@@ -297,8 +297,7 @@ fn write_stretch(codes: &[u64; 225], g: usize, h: usize, out: &mut [u8], at: usi
 const CS: usize = 3;
 
 // How many letters a list that is written has, and its sign.
-#[derive(Drop)]
-#[derive(Clone, Copy)]
+#[derive(Clone, Copy, Debug, PartialEq, Eq)]
 pub struct List {
     pub letters: usize,
     pub sign: u8,
@@ -314,14 +313,12 @@ pub fn write_list(count: u8, numbers: [u8; 60], columns: [u8; 6], out: &mut [u8]
     let mut before = CS;
     let mut at = 0usize;
     let mut signs = 0u8;
-    let mut n = 0u8;
-    while n < count {
-        let g = numbers[n as usize] as usize;
+    for number in &numbers[..count as usize] {
+        let g = *number as usize;
         let word = write_stretch(&codes, before, g, out, at);
         at = word.next;
         signs += word.sign;
         before = g;
-        n += 1;
     }
     let last = letter::compose(right_of(before), columns);
     let word = word_table::write_clifford(last, out, at);

@@ -6,8 +6,7 @@ ghost use Rattle.std.specs.Prelude.{◌≡◌, ◌^◌};
 ghost use Rattle.gaussian.specs.Gaussian.{Within, ◌⊕◌, ◌⊖◌, ◌⊗◌, conj};
 
 // re + im i
-#[derive(Drop)]
-#[derive(Clone, Copy)]
+#[derive(Clone, Copy, Debug, PartialEq, Eq)]
 pub struct Gaussian {
     pub re: i64,
     pub im: i64,
@@ -53,6 +52,6 @@ pub fn conjugate(a: Gaussian) -> Gaussian
 {
     Gaussian {
         re: a.re,
-        im: 0 - a.im,
+        im: -a.im,
     }
 }

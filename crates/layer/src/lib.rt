@@ -4,21 +4,11 @@
 
 ghost use Rattle.std.specs.Prelude.{◌≡◌, ◌+◌, max, ◌<◌, ◌≤◌, length, get_or, set};
 ghost use Rattle.file.specs.File.{written};
+ghost use Rattle.refusal.specs.Refusal.{numbered};
 ghost use Rattle.block.specs.Block.{most_blocks, qubits, block_count, program_refusal};
 ghost use Rattle.layer.specs.Promise.{layer_bytes, layer_count, LayerPromise};
 
-use file::Answer;
-
-// The higher of two layers.
-// Wrong, and refused: the lower one; the first one.
-fn higher(x: u8, y: u8) -> u8
-    ensures { result ≡ max x y }
-{
-    if x < y {
-        return y;
-    }
-    x
-}
+use refusal::Refusal;
 
 // The first layer in which qubits x and y are both free, where `free` has the first one for each qubit. They are free from the next layer on then.
 // Wrong, and refused: the first qubit looked at alone; the second one left free; a qubit that is free one layer later.
@@ -26,7 +16,7 @@ fn take_layer(free: &mut [u8], x: u8, y: u8) -> u8
     requires { (length free.old ≡ qubits) × (x < qubits) × (y < qubits) × (max (get_or free.old x 0) (get_or free.old y 0) < most_blocks) }
     ensures { (result ≡ max (get_or free.old x 0) (get_or free.old y 0)) × (free.new ≡ set (set free.old x (result + 1)) y (result + 1)) }
 {
-    let layer = higher(free[x as usize], free[y as usize]);
+    let layer = free[x as usize].max(free[y as usize]);
     free[x as usize] = layer + 1;
     free[y as usize] = layer + 1;
     layer
@@ -40,28 +30,22 @@ fn write_layers(bytes: &[u8], out: &mut [u8]) -> u8
 {
     let mut free = [0u8; block::QUBITS as usize];
     let mut layers = 0u8;
-    let mut n = 0usize;
-    while n < bytes.len() / 2 {
+    for n in 0..bytes.len() / 2 {
         let layer = take_layer(&mut free, bytes[2 * n], bytes[2 * n + 1]);
-        let above = higher(layers, layer + 1);
-        layers = above;
+        layers = layers.max(layer + 1);
         out[n] = layer;
-        n += 1;
     }
     layers
 }
 
 // The layers of a program's blocks, one byte a block, at the front of `out`.
 // Wrong, and refused: 24 for every refusal of a program; a buffer of a byte a qubit asked for.
-pub fn blocks_to_layers(bytes: &[u8], out: &mut [u8]) -> Answer
-    ensures { LayerPromise bytes.now out.old out.new result }
+pub fn blocks_to_layers(bytes: &[u8], out: &mut [u8]) -> Result<u8, Refusal>
+    ensures { LayerPromise bytes.now out.old out.new (numbered result) }
 {
-    let refusal = block::program_refusal(bytes, 2);
-    if refusal != 0 {
-        return Answer::Refused(refusal);
-    }
+    block::check_program(bytes, 2)?;
     if out.len() < bytes.len() / 2 {
-        return Answer::Refused(6);
+        return Err(Refusal::Buffer);
     }
-    Answer::Count(write_layers(bytes, out))
+    Ok(write_layers(bytes, out))
 }

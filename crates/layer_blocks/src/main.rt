@@ -7,7 +7,6 @@ ghost use Rattle.io.specs.Counts.{IsPrefixLen};
 ghost use Rattle.file.specs.File.{Appended};
 ghost use Rattle.layer_blocks.specs.Output.{layer_text};
 
-use file::Answer;
 use std::io::Result;
 
 // The text for a program, at the front of `out`.
@@ -16,13 +15,12 @@ fn answer(blocks: &[u8], out: &mut [u8; 512]) -> usize
     ensures { Appended (layer_text blocks.now) 0 out.old out.new result × IsPrefixLen result out.new }
 {
     let mut layers = [0u8; block::MOST_BLOCKS];
-    let answer = layer::blocks_to_layers(blocks, &mut layers);
-    match answer {
-        Answer::Count(count) => {
+    match layer::blocks_to_layers(blocks, &mut layers) {
+        Ok(count) => {
             let second = line::write_layers(count, out, 0);
             line::write_layer(&layers[..blocks.len() / 2], out, second)
         }
-        Answer::Refused(refusal) => line::write_refused(refusal, out, 0),
+        Err(refusal) => line::write_refused(refusal.number(), out, 0),
     }
 }
 

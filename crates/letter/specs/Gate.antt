@@ -1,11 +1,9 @@
 -- The six letters of a gate list and their images (document 01, "Gate images").
-use Rattle.std.specs.Prelude.{Bool, true, false, cond, List, [], ◌∷◌, ℕ, ◌+◌, eqb}
+use Rattle.std.specs.Prelude.{Bool, true, false, cond, List, [], ◌∷◌, ℕ, ◌+◌, eqb, Option, Some, None}
 use Rattle.matrix.specs.Matrix.{Matrix, δ, product}
 use Rattle.clifford.specs.Columns.{columns_matrix}
 use Rattle.letter.specs.declared.Gate.{Gate}
 use Rattle.letter.specs.declared.Gate.TheVariants.{H1, H2, S1, S2, Cz, Cs}
-use Rattle.letter.specs.declared.Letter.{Letter}
-use Rattle.letter.specs.declared.Letter.TheVariants.{Is, Unknown}
 
 -- "Each letter is one ASCII byte"
 abbrev pub letter : Gate → ℕ
@@ -17,14 +15,14 @@ letter Cz = 90
 letter Cs = 67
 
 -- what a byte of a gate list is: "a byte that is no letter of the table" is unknown
-unfoldable pub gate_of : ℕ → Letter
+unfoldable pub gate_of : ℕ → Option Gate
 gate_of b =
-    cond (eqb b 72) (Is H1)
-    (cond (eqb b 104) (Is H2)
-    (cond (eqb b 83) (Is S1)
-    (cond (eqb b 115) (Is S2)
-    (cond (eqb b 90) (Is Cz)
-    (cond (eqb b 67) (Is Cs) Unknown)))))
+    cond (eqb b 72) (Some H1)
+    (cond (eqb b 104) (Some H2)
+    (cond (eqb b 83) (Some S1)
+    (cond (eqb b 115) (Some S2)
+    (cond (eqb b 90) (Some Cz)
+    (cond (eqb b 67) (Some Cs) None)))))
 
 -- a Clifford gate's image, by the bytes of its columns. CS is no Clifford and has none
 abbrev pub columns : Gate → List ℕ

@@ -9,8 +9,7 @@ ghost use Rattle.letter.specs.Gate.{letter, gate_of, is_cs};
 ghost use Rattle.letter.specs.Composition.{image_of, composed, composed_gate};
 
 // A letter of a gate list (document 01, "Gate images").
-#[derive(Drop)]
-#[derive(Clone, Copy)]
+#[derive(Clone, Copy, Debug, PartialEq, Eq)]
 pub enum Gate {
     // H: H, first qubit
     H1,
@@ -24,14 +23,6 @@ pub enum Gate {
     Cz,
     // C: CS
     Cs,
-}
-
-// What a byte of a gate list is.
-#[derive(Drop)]
-#[derive(Clone, Copy)]
-pub enum Letter {
-    Is(Gate),
-    Unknown,
 }
 
 // The ASCII byte of a gate.
@@ -48,18 +39,18 @@ pub fn letter_of(g: Gate) -> u8
     }
 }
 
-// The gate of a byte; every byte between the letters is unknown.
-pub fn gate_of(b: u8) -> Letter
+// The gate of a byte; every byte between the letters has none.
+pub fn gate_of(b: u8) -> Option<Gate>
     ensures { result ≡ gate_of b }
 {
     match b {
-        b'H' => Letter::Is(Gate::H1),
-        b'h' => Letter::Is(Gate::H2),
-        b'S' => Letter::Is(Gate::S1),
-        b's' => Letter::Is(Gate::S2),
-        b'Z' => Letter::Is(Gate::Cz),
-        b'C' => Letter::Is(Gate::Cs),
-        0..=66 | 68..=71 | 73..=82 | 84..=89 | 91..=103 | 105..=114 | 116..=255 => Letter::Unknown,
+        b'H' => Some(Gate::H1),
+        b'h' => Some(Gate::H2),
+        b'S' => Some(Gate::S1),
+        b's' => Some(Gate::S2),
+        b'Z' => Some(Gate::Cz),
+        b'C' => Some(Gate::Cs),
+        0..=66 | 68..=71 | 73..=82 | 84..=89 | 91..=103 | 105..=114 | 116..=255 => None,
     }
 }
 
@@ -67,14 +58,7 @@ pub fn gate_of(b: u8) -> Letter
 pub fn is_cs(g: Gate) -> bool
     ensures { result ≡ is_cs g }
 {
-    match g {
-        Gate::H1 => false,
-        Gate::H2 => false,
-        Gate::S1 => false,
-        Gate::S2 => false,
-        Gate::Cz => false,
-        Gate::Cs => true,
-    }
+    matches!(g, Gate::Cs)
 }
 
 // Where the matrix with these columns takes the column of byte b.
@@ -95,11 +79,9 @@ pub fn compose(left: [u8; 6], right: [u8; 6]) -> [u8; 6]
     requires { are_column_bytes right ≡ true }
     ensures { result ≡ composed left right }
 {
-    let mut out = [0u8; 6];
-    let mut c = 0usize;
-    while c < 6 {
+    let mut out = [0; 6];
+    for c in 0..6 {
         out[c] = image(left, right[c]);
-        c += 1;
     }
     out
 }

@@ -6,7 +6,6 @@
 ghost use Rattle.io.specs.Counts.{IsPrefixLen};
 ghost use Rattle.list_gates.specs.Output.{Printed};
 
-use operator::Listed;
 use std::io::Result;
 
 // The text for a file, at the front of `out`.
@@ -14,18 +13,12 @@ fn answer(file: &[u8], out: &mut [u8; 16384]) -> usize
     ensures { Printed file.now out.old out.new result × IsPrefixLen result out.new }
 {
     let mut gates = [0u8; gate::GATES_BUFFER];
-    let answer = operator::operator_to_gates(file, &mut gates);
-    match answer {
-        Listed::Letters {
-            count,
-            letters,
-            loose,
-            sign,
-        } => {
-            let end = line::write_list(count, &gates[..letters], loose, out);
-            line::write_sign(sign, out, end)
+    match operator::operator_to_gates(file, &mut gates) {
+        Ok(list) => {
+            let end = line::write_list(list.count, &gates[..list.letters], list.loose, out);
+            line::write_sign(list.sign, out, end)
         }
-        Listed::Refused(refusal) => line::write_refused(refusal, out, 0),
+        Err(refusal) => line::write_refused(refusal.number(), out, 0),
     }
 }
 

@@ -12,7 +12,6 @@ ghost use Rattle.sheet_bytes.specs.Sheet.{sheet_refusal};
 ghost use Rattle.short_sheet.specs.Short.{if_read, plain_sheets};
 ghost use Rattle.list_short.specs.Output.{lines_of, pairs_of, short_text};
 
-use file::Answer;
 use std::io::Result;
 
 // Whether these bytes are read as a sheet.
@@ -20,11 +19,7 @@ fn is_read(sheet: &[u8]) -> bool
     ensures { result ≡ eqb (sheet_refusal sheet.now) 0 }
 {
     let mut file = [0u8; file::LONG_LENGTH];
-    let answer = sheet::sheet_to_operator(sheet, &mut file);
-    match answer {
-        Answer::Count(_) => true,
-        Answer::Refused(_) => false,
-    }
+    sheet::sheet_to_operator(sheet, &mut file).is_ok()
 }
 
 // The line of a sheet of at most two numbers, if it is read: at most ten bytes.
@@ -45,11 +40,8 @@ fn write_ones(out: &mut [u8], at: usize) -> usize
     ensures { Appended (lines_of (plain_sheets 1)) at out.old out.new result }
 {
     let mut end = at;
-    let mut g = 1u8;
-    while g <= 15 {
-        let next = write_entry(&[65, g, 1, 2, 3, 4, 5, 6, 0], out, end);
-        end = next;
-        g += 1;
+    for g in 1u8..=15 {
+        end = write_entry(&[65, g, 1, 2, 3, 4, 5, 6, 0], out, end);
     }
     end
 }
@@ -60,11 +52,8 @@ fn write_pairs(g: u8, out: &mut [u8], at: usize) -> usize
     ensures { Appended (lines_of (pairs_of g)) at out.old out.new result }
 {
     let mut end = at;
-    let mut h = 1u8;
-    while h <= 15 {
-        let next = write_entry(&[66, g, h, 1, 2, 3, 4, 5, 6, 0], out, end);
-        end = next;
-        h += 1;
+    for h in 1u8..=15 {
+        end = write_entry(&[66, g, h, 1, 2, 3, 4, 5, 6, 0], out, end);
     }
     end
 }
@@ -75,11 +64,8 @@ fn write_twos(out: &mut [u8], at: usize) -> usize
     ensures { Appended (lines_of (plain_sheets 2)) at out.old out.new result }
 {
     let mut end = at;
-    let mut g = 1u8;
-    while g <= 15 {
-        let next = write_pairs(g, out, end);
-        end = next;
-        g += 1;
+    for g in 1u8..=15 {
+        end = write_pairs(g, out, end);
     }
     end
 }

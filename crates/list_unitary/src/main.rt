@@ -6,7 +6,6 @@ ghost use Rattle.io.specs.Counts.{IsPrefixLen};
 ghost use Rattle.list_unitary.specs.Output.{Printed};
 
 use std::io::Result;
-use unitary_gates::Synthesis;
 
 // The text for the bytes, at the front of `out`.
 // Wrong, and refused: L in the line of the power; the power over L.
@@ -14,18 +13,12 @@ fn answer(bytes: &[u8], out: &mut [u8; 16384]) -> usize
     ensures { Printed bytes.now out.old out.new result × IsPrefixLen result out.new }
 {
     let mut gates = [0u8; gate::GATES_BUFFER];
-    let answer = unitary_gates::unitary_to_gates(bytes, &mut gates);
-    match answer {
-        Synthesis::Letters {
-            count,
-            letters,
-            loose,
-            power,
-        } => {
-            let end = line::write_list(count, &gates[..letters], loose, out);
-            line::write_omega(power, out, end)
+    match unitary_gates::unitary_to_gates(bytes, &mut gates) {
+        Ok(list) => {
+            let end = line::write_list(list.count, &gates[..list.letters], list.loose, out);
+            line::write_omega(list.power, out, end)
         }
-        Synthesis::Refused(refusal) => line::write_refused(refusal, out, 0),
+        Err(refusal) => line::write_refused(refusal.number(), out, 0),
     }
 }
 

@@ -4,6 +4,7 @@ use Rattle.std.specs.Int.Signed.{le_z}
 use Rattle.matrix.specs.Range.{every, first_from, bits, total}
 use Rattle.matrix.specs.Integer.{parity, half, equals}
 use Rattle.matrix.specs.Matrix.{Matrix, δ, replaced, row_product, entry, listed}
+use Rattle.matrix.specs.declared.Least.{Least}
 
 -- no entry is larger than b, in size: what rules out overflow
 pub record Bounded (b : ℕ) (M : Matrix) : Type 0 where
@@ -60,10 +61,6 @@ choose true x y = x
 choose false x y = y
 
 -- an exponent and an array of 36 numbers, as `least_form` gives them
-pub record Least : Type 0 where
-  pub exponent : ℕ
-  pub matrix : List ℤ
-
 abbrev pub least : ℕ → List ℤ → Least
 least k m = record { exponent = k; matrix = m }
 

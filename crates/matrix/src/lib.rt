@@ -14,10 +14,8 @@ pub fn row_product(m: &[i64; 36], i: usize, j: usize) -> i64
     ensures { result ≡ row_product 6 (entry m.now) i j }
 {
     let mut sum = 0i64;
-    let mut c = 0usize;
-    while c < 6 {
-        sum = sum + m[i * 6 + c] * m[j * 6 + c];
-        c += 1;
+    for c in 0..6 {
+        sum += m[i * 6 + c] * m[j * 6 + c];
     }
     sum
 }
@@ -26,11 +24,7 @@ pub fn row_product(m: &[i64; 36], i: usize, j: usize) -> i64
 pub fn parity_of(x: i64) -> u8
     ensures { result ≡ parity x }
 {
-    let rest = x % 2;
-    if rest == 0 {
-        return 0;
-    }
-    1
+    (x % 2 != 0) as u8
 }
 
 // How many entries, row by row, stand before the first odd one: 36 if all are even.
@@ -38,14 +32,7 @@ pub fn parity_of(x: i64) -> u8
 pub fn before_odd(m: &[i64; 36]) -> usize
     ensures { result ≡ before_odd (entry m.now) }
 {
-    let mut n = 0usize;
-    while n < 36 {
-        if parity_of(m[n]) == 1 {
-            return n;
-        }
-        n += 1;
-    }
-    36
+    m.iter().position(|x| parity_of(*x) == 1).unwrap_or(36)
 }
 
 // Every entry halved.
@@ -53,10 +40,8 @@ pub fn halve(m: &mut [i64; 36])
     requires { length m.old ≡ 36 }
     ensures { m.new ≡ listed (halved (entry m.old)) }
 {
-    let mut n = 0usize;
-    while n < 36 {
-        m[n] = m[n] / 2;
-        n += 1;
+    for x in m.iter_mut() {
+        *x /= 2;
     }
 }
 
@@ -66,15 +51,20 @@ pub fn row_mask(m: &[i64; 36], r: usize) -> u8
     ensures { result ≡ row_mask (entry m.now) r }
 {
     let mut mask = 0u8;
-    let mut c = 6usize;
-    while 0 < c {
-        c -= 1;
+    for c in (0..6).rev() {
         mask = parity_of(m[r * 6 + c]) + 2 * mask;
     }
     mask
 }
 
-// (k, m) brought to its least exponent, which is answered.
+// An operator at its least exponent: the exponent and the 36 entries.
+#[derive(Clone, Copy)]
+pub struct Least {
+    pub exponent: u8,
+    pub matrix: [i64; 36],
+}
+
+// (k, m) brought to its least exponent, which is answered. It is brought there in place: most operators are there already, and none is copied.
 // Wrong, and refused: an exponent lower by one for each halving; an operator halved whose last entry is odd.
 pub fn least_form(k: u8, m: &mut [i64; 36]) -> u8
     requires { length m.old ≡ 36 }
@@ -107,9 +97,7 @@ pub fn half_sums(m: &mut [i64; 36], i: usize, j: usize)
     requires { (i < j) × (j < 6) × (length m.old ≡ 36) × Bounded (2 ^ 30) (entry m.old) }
     ensures { m.new ≡ listed (half_sums i j (entry m.old)) }
 {
-    let mut c = 0usize;
-    while c < 6 {
+    for c in 0..6 {
         half_pair(m, i * 6 + c, j * 6 + c);
-        c += 1;
     }
 }

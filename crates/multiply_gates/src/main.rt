@@ -8,7 +8,6 @@ ghost use Rattle.gate.specs.Reading.{reading};
 ghost use Rattle.text_read.specs.Text.{without_line_feed};
 ghost use Rattle.multiply_gates.specs.Output.{output_of};
 
-use file::Answer;
 use std::io::Result;
 
 // The bytes for a gate list, at the front of `out`.
@@ -16,10 +15,9 @@ fn answer(input: &[u8], out: &mut [u8; 256]) -> usize
     ensures { Appended (output_of (reading (without_line_feed input.now))) 0 out.old out.new result × IsPrefixLen result out.new }
 {
     let letters = text_read::without_line_feed(input);
-    let answer = gate::gates_to_operator(letters, out);
-    match answer {
-        Answer::Count(count) => file::length_for(count),
-        Answer::Refused(refusal) => line::write_refused(refusal, out, 0),
+    match gate::gates_to_operator(letters, out) {
+        Ok(count) => file::length_for(count),
+        Err(refusal) => line::write_refused(refusal.number(), out, 0),
     }
 }
 

@@ -6,17 +6,15 @@ ghost use Rattle.io.specs.Counts.{IsPrefixLen};
 ghost use Rattle.file.specs.File.{Appended};
 ghost use Rattle.multiply_sheet.specs.Output.{output_of};
 
-use file::Answer;
 use std::io::Result;
 
 // The bytes for a sheet, at the front of `out`.
 fn answer(bytes: &[u8], out: &mut [u8; 256]) -> usize
     ensures { Appended (output_of bytes.now) 0 out.old out.new result × IsPrefixLen result out.new }
 {
-    let answer = sheet::sheet_to_operator(bytes, out);
-    match answer {
-        Answer::Count(count) => file::length_for(count),
-        Answer::Refused(refusal) => line::write_refused(refusal, out, 0),
+    match sheet::sheet_to_operator(bytes, out) {
+        Ok(count) => file::length_for(count),
+        Err(refusal) => line::write_refused(refusal.number(), out, 0),
     }
 }
 

@@ -3,14 +3,14 @@
 
 #![tactic(auto)]
 
-ghost use Rattle.std.specs.Prelude.{List, map, ◌≡◌, ◌+◌, ◌*◌, ◌%◌, ◌^◌, ◌<◌, ◌≤◌, length, take};
+ghost use Rattle.std.specs.Prelude.{List, map, ◌≡◌, ◌+◌, ◌*◌, ◌%◌, ◌^◌, ◌<◌};
 ghost use Rattle.letter.specs.declared.Gate.{Gate};
 ghost use Rattle.letter.specs.Gate.{letter};
 ghost use Rattle.gaussian.specs.Gaussian.{gaussian};
 ghost use Rattle.unitary.specs.Unitary.{quotient, matrix_of};
 ghost use Rattle.omega.specs.Modular.{remainder, residue_of, Residues, first_column, undone, exponent_of, power_of};
 
-use letter::{Gate, Letter};
+use letter::Gate;
 
 // The powers of 14. The sixteenth is 1 again.
 const ROOT_POWERS: [u64; 16] = [1, 14, 9, 7, 13, 12, 15, 6, 16, 3, 8, 10, 4, 5, 2, 11];
@@ -44,12 +44,7 @@ fn residue(k: u8, re: i64, im: i64) -> u64
 fn first_column(k: u8, n: [i64; 32]) -> [u64; 4]
     ensures { result ≡ first_column (quotient k (matrix_of n)) }
 {
-    [
-        residue(k, n[0], n[1]),
-        residue(k, n[8], n[9]),
-        residue(k, n[16], n[17]),
-        residue(k, n[24], n[25]),
-    ]
+    std::array::from_fn(|i| residue(k, n[8 * i], n[8 * i + 1]))
 }
 
 // The sum of two residues over root two.
@@ -97,8 +92,8 @@ fn undo_letter(b: u8, v: [u64; 4]) -> [u64; 4]
     ensures { Residues result × ((g : Gate) → b ≡ letter g → result ≡ undone g v) }
 {
     match letter::gate_of(b) {
-        Letter::Is(g) => undo(g, v),
-        Letter::Unknown => v,
+        Some(g) => undo(g, v),
+        None => v,
     }
 }
 
@@ -120,19 +115,15 @@ fn exponent_of(x: u64) -> u8
     }
 }
 
-// The power of ω by which the first `count` letters give the unitary (k, n), where they give it by some power.
+// The power of ω by which the letters give the unitary (k, n), where they give it by some power.
 // Wrong, and refused: the second half of the letters left out; every second letter left out; the first letter in place of each; the power read from place
 // 1; the exponent k left out.
-pub fn power_of(k: u8, n: [i64; 32], letters: &[u8], count: usize) -> u8
-    requires { count ≤ length letters.now }
-    ensures { (w : List Gate) → take count letters.now ≡ map letter w → result ≡ power_of (quotient k (matrix_of n)) w }
+pub fn power_of(k: u8, n: [i64; 32], letters: &[u8]) -> u8
+    ensures { (w : List Gate) → letters.now ≡ map letter w → result ≡ power_of (quotient k (matrix_of n)) w }
 {
     let mut v = first_column(k, n);
-    let mut at = 0usize;
-    while at < count {
-        let next = undo_letter(letters[at], v);
-        v = next;
-        at += 1;
+    for b in letters {
+        v = undo_letter(*b, v);
     }
     exponent_of(v[0])
 }

@@ -1,5 +1,6 @@
 -- What the calls from an operator file to a sheet and to a gate list promise.
-use Rattle.std.specs.Prelude.{cond, List, map, ◌≢◌, ◌⊎◌, ◌≡◌, ℕ, ◌+◌, ◌*◌, ◌≤◌, ◌<◌, eqb, ltb, length, get_or}
+use Rattle.std.specs.Prelude.{cond, List, map, ◌≢◌, ◌⊎◌, ◌≡◌, ℕ, ◌+◌, ◌*◌, ◌≤◌, ◌<◌, eqb, ltb, length, get_or, Result, Ok, Err}
+use Rattle.refusal.specs.Refusal.{refusal_of}
 use Rattle.matrix.specs.Operator.{SameOperator, LeastExponent}
 use Rattle.file.specs.File.{file_exponent, file_matrix, file_operator, InForm, written}
 use Rattle.letter.specs.declared.Gate.{Gate}
@@ -8,22 +9,12 @@ use Rattle.gate.specs.Product.{MultipliesTo}
 use Rattle.gate_list.specs.List.{list_of}
 use Rattle.gate_list.specs.Promise.{ListFor}
 use Rattle.operator.specs.declared.Cuts.{Cuts}
-use Rattle.operator.specs.declared.Cuts.TheVariants.{Taken, Refused}
-use Rattle.operator.specs.declared.Listed as listed
+use Rattle.operator.specs.declared.Listed.{Listed}
 use Rattle.sheet_bytes.specs.Bytes.{shortest, count_byte, sheet, sheet_operator}
 use Rattle.acceptance.specs.Acceptance.{file_refusal}
 use Rattle.acceptance.specs.Cutting.{file_count, file_loose}
 
 -- ---- refused for its entries
-
--- the number of an answer's refusal, 0 where there is none
-abbrev pub refusal_of : Cuts → ℕ
-refusal_of (Taken t l) = 0
-refusal_of (Refused n) = n
-
-abbrev pub listed_refusal : listed.Listed → ℕ
-listed_refusal (listed.TheVariants.Letters t n l s) = 0
-listed_refusal (listed.TheVariants.Refused n) = n
 
 -- "a file is refused for its entries if the answer is 3, 4 or 5"
 abbrev pub ForEntries : ℕ → Type 0
@@ -47,14 +38,17 @@ file_sheet b = sheet (file_exponent b) (file_matrix b)
 
 -- the answer, where the lent buffer has n bytes: "operators 1, 2, 3, 4, 5, 6", and 6 is "shorter than … the sheet", which has t + 8 bytes
 -- (document 02, P4); "beside the count, L" (P3)
-unfoldable pub sheet_answer : List ℕ → ℕ → Cuts
-sheet_answer b n = cond (eqb (file_refusal b) 0) (cond (ltb n (length (file_sheet b))) (Refused 6) (Taken (file_count b) (file_loose b))) (Refused (file_refusal b))
+unfoldable pub sheet_answer : List ℕ → ℕ → Result Cuts ℕ
+sheet_answer b n =
+    cond (eqb (file_refusal b) 0)
+    (cond (ltb n (length (file_sheet b))) (Err 6) (Ok (record { count = file_count b; loose = file_loose b })))
+    (Err (file_refusal b))
 
 -- the buffer afterwards
 unfoldable pub sheet_buffer : List ℕ → List ℕ → List ℕ
 sheet_buffer b old = cond (eqb (file_refusal b) 0) (cond (ltb (length old) (length (file_sheet b))) old (written old (file_sheet b))) old
 
-pub record SheetPromise (b old new : List ℕ) (a : Cuts) : Type 0 where
+pub record SheetPromise (b old new : List ℕ) (a : Result Cuts ℕ) : Type 0 where
   pub answer : a ≡ sheet_answer b (length old)
   pub buffer : new ≡ sheet_buffer b old
   -- demand 2: the sheet's generators in order, times its Clifford, times the sign are the operator handed in
@@ -68,18 +62,18 @@ pub record SheetPromise (b old new : List ℕ) (a : Cuts) : Type 0 where
 -- ---- gate lists
 
 -- a list w for the file's operator was written; s is its sign
-pub record Handed (b old new : List ℕ) (a : listed.Listed) (w : List Gate) (s : ℕ) : Type 0 where
+pub record Handed (b old new : List ℕ) (a : Result Listed ℕ) (w : List Gate) (s : ℕ) : Type 0 where
   -- the letters at the front of the buffer, and the bytes past them as they were
   pub buffer : new ≡ written old (map letter w)
   -- "the count comes with the number of letters written"; "beside the count, L" (document 02, P3); "its result says which" (P9)
-  pub answer : a ≡ listed.TheVariants.Letters (file_count b) (length w) (file_loose b) s
+  pub answer : a ≡ Ok (record { count = file_count b; letters = length w; loose = file_loose b; sign = s })
   pub list : ListFor (file_operator b) (file_count b) w s
   -- the letters that the papers leave free follow from the normal form
   pub form_list : w ≡ list_of (file_exponent b) (file_matrix b)
 
-pub record GatesPromise (b old new : List ℕ) (a : listed.Listed) : Type 0 where
-  pub refused : file_refusal b ≢ 0 → (a ≡ listed.TheVariants.Refused (file_refusal b)) × (new ≡ old)
+pub record GatesPromise (b old new : List ℕ) (a : Result Listed ℕ) : Type 0 where
+  pub refused : file_refusal b ≢ 0 → (a ≡ Err (file_refusal b)) × (new ≡ old)
   -- 6: "shorter than 256 × (t + 1) for a gate list"
-  pub no_room : file_refusal b ≡ 0 → length old < 256 * (file_count b + 1) → (a ≡ listed.TheVariants.Refused 6) × (new ≡ old)
+  pub no_room : file_refusal b ≡ 0 → length old < 256 * (file_count b + 1) → (a ≡ Err 6) × (new ≡ old)
   pub handed : file_refusal b ≡ 0 → 256 * (file_count b + 1) ≤ length old → (w : List Gate) × (s : ℕ) × Handed b old new a w s
-  pub exactly : ExactlyRefused b (listed_refusal a)
+  pub exactly : ExactlyRefused b (refusal_of a)

@@ -1,8 +1,6 @@
 -- States to order (document 01): "from t … and a spoilage p in thousandths (0 to 1000): t plus t × p / 1000", rounded as document 02 says,
 -- P1, for t from 0 to 60 (P10).
-use Rattle.std.specs.Prelude.{◌≡◌, cond, ◌||◌, ℕ, ◌+◌, ◌*◌, ◌/◌, ◌%◌, ◌≤◌, ltb}
-use Rattle.file.specs.declared.Answer.{Answer}
-use Rattle.file.specs.declared.Answer.TheVariants.{Count, Refused}
+use Rattle.std.specs.Prelude.{◌≡◌, cond, ◌||◌, ℕ, ◌+◌, ◌*◌, ◌/◌, ◌%◌, ◌≤◌, ltb, Result, Ok, Err}
 use Rattle.file.specs.File.{largest_exponent}
 
 abbrev pub largest_spoilage : ℕ
@@ -27,5 +25,5 @@ abbrev pub figure : ℕ → ℕ → ℕ
 figure t p = t + nearest (t * p)
 
 -- 14: t above 60 or "p above 1000"; "the figure stands in place of the count"
-unfoldable pub order_answer : ℕ → ℕ → Answer
-order_answer t p = cond (ltb largest_exponent t || ltb largest_spoilage p) (Refused 14) (Count (figure t p))
+unfoldable pub order_answer : ℕ → ℕ → Result ℕ ℕ
+order_answer t p = cond (ltb largest_exponent t || ltb largest_spoilage p) (Err 14) (Ok (figure t p))

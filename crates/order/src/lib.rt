@@ -3,9 +3,10 @@
 #![tactic(auto)]
 
 ghost use Rattle.std.specs.Prelude.{◌≡◌};
+ghost use Rattle.refusal.specs.Refusal.{numbered};
 ghost use Rattle.order.specs.Order.{nearest, order_answer};
 
-use file::Answer;
+use refusal::Refusal;
 
 // The largest spoilage, in thousandths.
 pub const LARGEST_SPOILAGE: u64 = 1000;
@@ -33,15 +34,12 @@ fn whole_states(thousandths: u64) -> u64
 
 // How many CS states to order for a circuit of t CS gates, where p thousandths of them spoil.
 // Wrong, and refused: a spoilage of 1000 turned away; the states that spoil without those that are used.
-pub fn states_to_order(t: u64, p: u64) -> Answer
-    ensures { result ≡ order_answer t p }
+pub fn states_to_order(t: u64, p: u64) -> Result<u8, Refusal>
+    ensures { numbered result ≡ order_answer t p }
 {
-    if (file::LARGEST_EXPONENT as u64) < t {
-        return Answer::Refused(14);
-    }
-    if LARGEST_SPOILAGE < p {
-        return Answer::Refused(14);
+    if (file::LARGEST_EXPONENT as u64) < t || LARGEST_SPOILAGE < p {
+        return Err(Refusal::Order);
     }
     let states = t + whole_states(t * p);
-    Answer::Count(states as u8)
+    Ok(states as u8)
 }

@@ -8,19 +8,16 @@ ghost use Rattle.order.specs.Order.{order_answer};
 ghost use Rattle.text_read.specs.Text.{number_of};
 ghost use Rattle.order_states.specs.Output.{answer_line, order_text};
 
-use file::Answer;
 use std::env::{Env, FillError};
 use std::io::Result;
-use text_read::Number;
 
 // The line for two numbers, at the front of `out`.
 fn order_line(t: u64, p: u64, out: &mut [u8; 32]) -> usize
     ensures { Appended (answer_line (order_answer t p)) 0 out.old out.new result × IsPrefixLen result out.new }
 {
-    let answer = order::states_to_order(t, p);
-    match answer {
-        Answer::Count(states) => line::write_order(states, out, 0),
-        Answer::Refused(refusal) => line::write_refused(refusal, out, 0),
+    match order::states_to_order(t, p) {
+        Ok(states) => line::write_order(states, out, 0),
+        Err(refusal) => line::write_refused(refusal.number(), out, 0),
     }
 }
 
@@ -28,15 +25,13 @@ fn order_line(t: u64, p: u64, out: &mut [u8; 32]) -> usize
 fn answer(count: &[u8], spoilage: &[u8], out: &mut [u8; 32]) -> usize
     ensures { Appended (order_text (number_of count.now) (number_of spoilage.now)) 0 out.old out.new result × IsPrefixLen result out.new }
 {
-    let t = text_read::read_number(count);
-    let p = text_read::read_number(spoilage);
-    match t {
-        Number::Is(t) => match p {
-            Number::Is(p) => order_line(t, p, out),
-            Number::Unknown => 0,
-        },
-        Number::Unknown => 0,
-    }
+    let Some(t) = text_read::read_number(count) else {
+        return 0;
+    };
+    let Some(p) = text_read::read_number(spoilage) else {
+        return 0;
+    };
+    order_line(t, p, out)
 }
 
 // An argument that is missing or longer than its buffer has no bytes here, and is no number.

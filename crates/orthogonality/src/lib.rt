@@ -35,14 +35,7 @@ pub fn is_orthogonal(k: u8, m: [i64; 36]) -> bool
     ensures { result ≡ is_orthogonal k (entry m) }
 {
     let norm = power_of_two(k);
-    let mut n = 0usize;
-    while n < 36 {
-        if !rows_orthogonal(&m, n / 6, n % 6, norm) {
-            return false;
-        }
-        n += 1;
-    }
-    true
+    (0..36).all(|n| rows_orthogonal(&m, n / 6, n % 6, norm))
 }
 
 // Whether no entry's square exceeds 2 to the power k.
@@ -51,13 +44,10 @@ pub fn is_within(k: u8, m: [i64; 36]) -> bool
     ensures { result ≡ is_within k (entry m) }
 {
     let limit = power_of_two(k);
-    let mut n = 0usize;
-    while n < 36 {
-        let x = m[n];
+    for &x in &m {
         if limit < x * x {
             return false;
         }
-        n += 1;
     }
     true
 }

@@ -1,7 +1,5 @@
 -- What the calls between gate lists and OpenQASM 2.0 text promise.
-use Rattle.std.specs.Prelude.{cond, List, map, ◌≡◌, ℕ, ltb, length}
-use Rattle.file.specs.declared.Wrote.{Wrote}
-use Rattle.file.specs.declared.Wrote.TheVariants.{Bytes, Refused}
+use Rattle.std.specs.Prelude.{cond, List, map, ◌≡◌, ℕ, ltb, length, Result, Ok, Err}
 use Rattle.file.specs.File.{written}
 use Rattle.letter.specs.declared.Gate.{Gate}
 use Rattle.letter.specs.Gate.{letter}
@@ -13,17 +11,17 @@ use Rattle.qasm.specs.Reading.{read_qasm, meaning, normalised, read_letters}
 -- ---- where a list w is written as the bytes of `bytes_of w`
 
 -- how many bytes that are, or the refusal: "The answer is the number of bytes written."
-abbrev pub size : (List Gate → List ℕ) → Reading → Wrote
-size bytes_of (gates w) = Bytes (length (bytes_of w))
-size bytes_of (refusal n) = Refused n
+abbrev pub size : (List Gate → List ℕ) → Reading → Result ℕ ℕ
+size bytes_of (gates w) = Ok (length (bytes_of w))
+size bytes_of (refusal n) = Err n
 
 -- "then 6 if the text doesn't fit", "reading ends with 6 if the letters don't fit", where the lent buffer has `room` bytes
-abbrev fitting : ℕ → Wrote → Wrote
-fitting room (Bytes n) = cond (ltb room n) (Refused 6) (Bytes n)
-fitting room (Refused n) = Refused n
+abbrev fitting : ℕ → Result ℕ ℕ → Result ℕ ℕ
+fitting room (Ok n) = cond (ltb room n) (Err 6) (Ok n)
+fitting room (Err n) = Err n
 
 -- the answer
-abbrev pub written_answer : (List Gate → List ℕ) → ℕ → Reading → Wrote
+abbrev pub written_answer : (List Gate → List ℕ) → ℕ → Reading → Result ℕ ℕ
 written_answer bytes_of room r = fitting room (size bytes_of r)
 
 -- the buffer afterwards
@@ -39,7 +37,7 @@ pub record WrittenAs (bs : List ℕ) (w : List Gate) : Type 0 where
   pub reads : read_qasm (text_of w) ≡ gates w
   pub means : MultipliesTo w (meaning (text_of w))
 
-pub record TextPromise (bs old new : List ℕ) (a : Wrote) : Type 0 where
+pub record TextPromise (bs old new : List ℕ) (a : Result ℕ ℕ) : Type 0 where
   pub answer : a ≡ written_answer text_of (length old) (read_letters bs)
   pub buffer : new ≡ written_buffer text_of old (read_letters bs)
   pub list : (w : List Gate) → read_letters bs ≡ gates w → WrittenAs bs w
@@ -53,7 +51,7 @@ pub record ReadAs (bs : List ℕ) (w : List Gate) : Type 0 where
   pub means : MultipliesTo w (meaning bs)
   pub taken : read_letters (map letter w) ≡ gates w
 
-pub record LettersPromise (bs old new : List ℕ) (a : Wrote) : Type 0 where
+pub record LettersPromise (bs old new : List ℕ) (a : Result ℕ ℕ) : Type 0 where
   pub answer : a ≡ written_answer (map letter) (length old) (read_qasm bs)
   pub buffer : new ≡ written_buffer (map letter) old (read_qasm bs)
   pub list : (w : List Gate) → read_qasm bs ≡ gates w → ReadAs bs w

@@ -1,13 +1,11 @@
 -- Gate lists read from OpenQASM 2.0 text, and from letters to be written as such text (document 02, P8).
-use Rattle.std.specs.Prelude.{Bool, cond, ◌||◌, ℕ, eqb, ltb, length, drop}
+use Rattle.std.specs.Prelude.{Bool, cond, ◌||◌, ℕ, eqb, ltb, length, drop, Option, Some, None}
 use mathlib.Core.List.{List, [], ◌∷◌, ◌++◌, flatten, map}
 use Rattle.matrix.specs.List.{same_list}
 use Rattle.matrix.specs.Matrix.{δ}
 use Rattle.matrix.specs.Operator.{Operator, operator, times_operator}
 use Rattle.letter.specs.declared.Gate.{Gate}
 use Rattle.letter.specs.declared.Gate.TheVariants.{H1, H2, S1, S2, Cz, Cs}
-use Rattle.letter.specs.declared.Letter.{Letter}
-use Rattle.letter.specs.declared.Letter.TheVariants.{Is, Unknown}
 use Rattle.letter.specs.Gate.{gate_of}
 use Rattle.gate.specs.Product.{image}
 use Rattle.gate.specs.Reading.{Reading, gates, refusal, largest_list}
@@ -34,19 +32,19 @@ is_statement l g = same_list l (statement g) || same_list l (reversed g)
 abbrev pub gates_of_table : List Gate
 gates_of_table = H1 ∷ H2 ∷ S1 ∷ S2 ∷ Cz ∷ Cs ∷ []
 
-abbrev pub look_up : List Gate → List ℕ → Letter
-look_up [] l = Unknown
-look_up (g ∷ gs) l = cond (is_statement l g) (Is g) (look_up gs l)
+abbrev pub look_up : List Gate → List ℕ → Option Gate
+look_up [] l = None
+look_up (g ∷ gs) l = cond (is_statement l g) (Some g) (look_up gs l)
 
 -- what a line is: the gate of a statement, or "a line that is none of these"
-unfoldable pub statement_of : List ℕ → Letter
+unfoldable pub statement_of : List ℕ → Option Gate
 statement_of l = look_up gates_of_table l
 
 -- "its first statement is the last letter": a statement before those that are read. 23, "a line that is none of these"
-abbrev pub earlier : Letter → Reading → Reading
-earlier Unknown r = refusal 23
-earlier (Is g) (gates w) = gates (w ++ g ∷ [])
-earlier (Is g) (refusal n) = refusal n
+abbrev pub earlier : Option Gate → Reading → Reading
+earlier None r = refusal 23
+earlier (Some g) (gates w) = gates (w ++ g ∷ [])
+earlier (Some g) (refusal n) = refusal n
 
 unfoldable pub statements : List (List ℕ) → Reading
 statements [] = gates []
@@ -74,9 +72,9 @@ read_qasm bs = limited (read_text bs)
 -- ---- what a text means
 
 -- a line acts on what those before it have made, so that its gate is a factor on the left
-abbrev pub acting : Letter → Operator → Operator
-acting (Is g) A = times_operator (image g) A
-acting Unknown A = A
+abbrev pub acting : Option Gate → Operator → Operator
+acting (Some g) A = times_operator (image g) A
+acting None A = A
 
 abbrev pub acted : Operator → List (List ℕ) → Operator
 acted A [] = A
@@ -98,10 +96,10 @@ normalised bs = flatten (map normal (lines bs))
 -- ---- letters read
 
 -- a letter before those that are read. 8, "a byte that is no letter of the table"
-abbrev pub before : Letter → Reading → Reading
-before Unknown r = refusal 8
-before (Is g) (gates w) = gates (g ∷ w)
-before (Is g) (refusal n) = refusal n
+abbrev pub before : Option Gate → Reading → Reading
+before None r = refusal 8
+before (Some g) (gates w) = gates (g ∷ w)
+before (Some g) (refusal n) = refusal n
 
 unfoldable pub letters_of : List ℕ → Reading
 letters_of [] = gates []
@@ -112,9 +110,9 @@ unfoldable pub read_letters : List ℕ → Reading
 read_letters bs = cond (ltb largest_list (length bs)) (refusal 7) (letters_of bs)
 
 -- the statements of letters, from the last to the first; a byte that is no letter has none
-abbrev pub line_of : Letter → List ℕ
-line_of Unknown = []
-line_of (Is g) = statement g
+abbrev pub line_of : Option Gate → List ℕ
+line_of None = []
+line_of (Some g) = statement g
 
 unfoldable pub body_of : List ℕ → List ℕ
 body_of [] = []

@@ -3,6 +3,7 @@
 #![tactic(auto)]
 
 ghost use Rattle.std.specs.Prelude.{◌≡◌, ◌+◌, ◌≤◌, length};
+ghost use Rattle.refusal.specs.Refusal.{numbered};
 ghost use Rattle.file.specs.File.{Appended};
 ghost use Rattle.letter.specs.Gate.{gate_of};
 ghost use Rattle.gate.specs.Reading.{largest_list};
@@ -10,8 +11,8 @@ ghost use Rattle.qasm.specs.Text.{statement, text_of};
 ghost use Rattle.qasm.specs.Reading.{letters_of, line_of, body_of};
 ghost use Rattle.qasm.specs.Promise.{size, TextPromise};
 
-use file::Wrote;
-use letter::{Gate, Letter};
+use letter::Gate;
+use refusal::Refusal;
 
 // The bytes of the first three lines, of the longest statement, and of the longest text that is written.
 pub const FIRST_LENGTH: usize = 47;
@@ -67,22 +68,18 @@ fn write_statement(g: Gate, out: &mut [u8], at: usize) -> usize
 }
 
 // How many bytes the text of a list has, or 8.
-fn text_length(letters: &[u8]) -> Wrote
+fn text_length(letters: &[u8]) -> Result<usize, Refusal>
     requires { length letters.now ≤ largest_list }
-    ensures { result ≡ size text_of (letters_of letters.now) }
+    ensures { numbered result ≡ size text_of (letters_of letters.now) }
 {
     let mut n = FIRST_LENGTH;
-    let mut i = letters.len();
-    while 0 < i {
-        i -= 1;
+    for i in (0..letters.len()).rev() {
         match letter::gate_of(letters[i]) {
-            Letter::Is(g) => {
-                n += statement_length(g);
-            }
-            Letter::Unknown => return Wrote::Refused(8),
+            Some(g) => n += statement_length(g),
+            None => return Err(Refusal::Letter),
         }
     }
-    Wrote::Bytes(n)
+    Ok(n)
 }
 
 // The statement of a letter; that of another byte is none.
@@ -91,8 +88,8 @@ fn write_letter(b: u8, out: &mut [u8], at: usize) -> usize
     ensures { Appended (line_of (gate_of b)) at out.old out.new result }
 {
     match letter::gate_of(b) {
-        Letter::Is(g) => write_statement(g, out, at),
-        Letter::Unknown => at,
+        Some(g) => write_statement(g, out, at),
+        None => at,
     }
 }
 
@@ -102,11 +99,8 @@ fn write_statements(letters: &[u8], out: &mut [u8], at: usize) -> usize
     ensures { Appended (body_of letters.now) at out.old out.new result }
 {
     let mut next = at;
-    let mut i = letters.len();
-    while 0 < i {
-        i -= 1;
-        let end = write_letter(letters[i], out, next);
-        next = end;
+    for i in (0..letters.len()).rev() {
+        next = write_letter(letters[i], out, next);
     }
     next
 }
@@ -114,21 +108,17 @@ fn write_statements(letters: &[u8], out: &mut [u8], at: usize) -> usize
 // A gate list into OpenQASM 2.0 text at the front of `out`.
 // Wrong, and refused: the letters in the list's own order; q[1] for the first qubit; a byte that is no letter taken for the end; 7 at 16,384 letters; a
 // buffer that the text fills refused; the statements over the first lines.
-pub fn gates_to_qasm(letters: &[u8], out: &mut [u8]) -> Wrote
-    ensures { TextPromise letters.now out.old out.new result }
+pub fn gates_to_qasm(letters: &[u8], out: &mut [u8]) -> Result<usize, Refusal>
+    ensures { TextPromise letters.now out.old out.new (numbered result) }
 {
     if gate::LARGEST_LIST < letters.len() {
-        return Wrote::Refused(7);
+        return Err(Refusal::ListLength);
     }
-    match text_length(letters) {
-        Wrote::Refused(refusal) => Wrote::Refused(refusal),
-        Wrote::Bytes(n) => {
-            if out.len() < n {
-                return Wrote::Refused(6);
-            }
-            let next = text::write_bytes(&FIRST_LINES, out, 0);
-            write_statements(letters, out, next);
-            Wrote::Bytes(n)
-        }
+    let length = text_length(letters)?;
+    if out.len() < length {
+        return Err(Refusal::Buffer);
     }
+    let next = text::write_bytes(&FIRST_LINES, out, 0);
+    write_statements(letters, out, next);
+    Ok(length)
 }

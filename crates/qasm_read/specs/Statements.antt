@@ -1,13 +1,11 @@
 -- A text read from a place on, a statement at a time.
-use Rattle.std.specs.Prelude.{Bool, false, cond, List, [], ◌++◌, ◌≡◌, ℕ, ◌+◌, ◌*◌, ◌≤◌, ◌<◌, length, take, drop}
+use Rattle.std.specs.Prelude.{Bool, false, cond, List, [], ◌++◌, ◌≡◌, ℕ, ◌+◌, ◌*◌, ◌≤◌, ◌<◌, length, take, drop, Option, Some, None}
 use Rattle.matrix.specs.List.{same_list}
 use Rattle.letter.specs.declared.Gate.{Gate}
-use Rattle.letter.specs.declared.Letter.TheVariants.{Is}
 use Rattle.gate.specs.Reading.{Reading, gates, refusal}
 use Rattle.qasm.specs.Text.{statement, reversed, longest_statement}
 use Rattle.qasm.specs.Reading.{lines, earlier, statements}
-use Rattle.qasm_read.specs.declared.Line.{Line}
-use Rattle.qasm_read.specs.declared.Line.TheVariants.{Statement, Unknown}
+use Rattle.qasm_read.specs.declared.Statement.{Statement}
 use Rattle.qasm_read.specs.declared.Statements.{Statements}
 
 -- whether the bytes bs begin with a line
@@ -37,16 +35,16 @@ pub record StatementAt (bs : List ℕ) (at : ℕ) (g : Gate) (end : ℕ) : Type 
   pub inside : end ≤ length bs
   pub more : 0 < length bytes
   pub short : length bytes ≤ longest_statement
-  pub reads : (rest : List ℕ) → statements (lines (bytes ++ rest)) ≡ earlier (Is g) (statements (lines rest))
+  pub reads : (rest : List ℕ) → statements (lines (bytes ++ rest)) ≡ earlier (Some g) (statements (lines rest))
 
 -- no statement stands at the front
 pub record NoStatement (bs : List ℕ) : Type 0 where
   pub written : (g : Gate) → begins bs (statement g) ≡ false
   pub turned : (g : Gate) → begins bs (reversed g) ≡ false
 
-abbrev pub LineAt : List ℕ → ℕ → Line → Type 0
-LineAt bs at (Statement g end) = StatementAt bs at g end
-LineAt bs at Unknown = NoStatement (drop at bs)
+abbrev pub LineAt : List ℕ → ℕ → Option Statement → Type 0
+LineAt bs at (Some s) = StatementAt bs at s.gate s.end
+LineAt bs at None = NoStatement (drop at bs)
 
 -- ---- statements one after the other
 

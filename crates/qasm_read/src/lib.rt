@@ -2,25 +2,24 @@
 
 #![tactic(auto)]
 
-ghost use Rattle.std.specs.Prelude.{map, ◌≡◌, ◌≤◌, length};
+ghost use Rattle.std.specs.Prelude.{map, ◌≡◌, ◌≤◌, length, Ok};
+ghost use Rattle.refusal.specs.Refusal.{numbered};
 ghost use Rattle.file.specs.File.{written};
 ghost use Rattle.letter.specs.Gate.{letter};
 ghost use Rattle.qasm.specs.Promise.{size, LettersPromise};
 ghost use Rattle.qasm_read.specs.Statements.{after_line, read_from, list_in, LineAt, StatementsFrom};
 
-use file::Wrote;
 use letter::Gate;
+use refusal::Refusal;
 
-// What stands at a place of a text: a statement, its gate and the place after it, or none.
-#[derive(Drop)]
+// A statement of a text: its gate and the place after it.
 #[derive(Clone, Copy)]
-enum Line {
-    Statement(Gate, usize),
-    Unknown,
+struct Statement {
+    gate: Gate,
+    end: usize,
 }
 
 // Statements that stand one after the other: how many, and the place after them.
-#[derive(Drop)]
 #[derive(Clone, Copy)]
 pub struct Statements {
     pub count: usize,
@@ -37,57 +36,74 @@ pub fn after(text: &[u8], at: usize, line: &[u8]) -> usize
     requires { at ≤ length text.now }
     ensures { result ≡ after_line text.now at line.now }
 {
-    if text.len() - at < line.len() {
-        return at;
+    if text[at..].starts_with(line) {
+        return at + line.len();
     }
-    let mut i = 0usize;
-    while i < line.len() {
-        if text[at + i] != line[i] {
-            return at;
-        }
-        i += 1;
-    }
-    at + i
+    at
 }
 
-// What stands at a place.
-fn statement_at(text: &[u8], at: usize) -> Line
+// The statement that stands at a place.
+fn statement_at(text: &[u8], at: usize) -> Option<Statement>
     requires { at ≤ length text.now }
     ensures { LineAt text.now at result }
 {
     let end = after(text, at, &qasm::H_FIRST);
     if at < end {
-        return Line::Statement(Gate::H1, end);
+        return Some(Statement {
+            gate: Gate::H1,
+            end,
+        });
     }
     let end = after(text, at, &qasm::H_SECOND);
     if at < end {
-        return Line::Statement(Gate::H2, end);
+        return Some(Statement {
+            gate: Gate::H2,
+            end,
+        });
     }
     let end = after(text, at, &qasm::S_FIRST);
     if at < end {
-        return Line::Statement(Gate::S1, end);
+        return Some(Statement {
+            gate: Gate::S1,
+            end,
+        });
     }
     let end = after(text, at, &qasm::S_SECOND);
     if at < end {
-        return Line::Statement(Gate::S2, end);
+        return Some(Statement {
+            gate: Gate::S2,
+            end,
+        });
     }
     let end = after(text, at, &qasm::CZ);
     if at < end {
-        return Line::Statement(Gate::Cz, end);
+        return Some(Statement {
+            gate: Gate::Cz,
+            end,
+        });
     }
     let end = after(text, at, &CZ_REVERSED);
     if at < end {
-        return Line::Statement(Gate::Cz, end);
+        return Some(Statement {
+            gate: Gate::Cz,
+            end,
+        });
     }
     let end = after(text, at, &qasm::CS);
     if at < end {
-        return Line::Statement(Gate::Cs, end);
+        return Some(Statement {
+            gate: Gate::Cs,
+            end,
+        });
     }
     let end = after(text, at, &CS_REVERSED);
     if at < end {
-        return Line::Statement(Gate::Cs, end);
+        return Some(Statement {
+            gate: Gate::Cs,
+            end,
+        });
     }
-    Line::Unknown
+    None
 }
 
 // The statements that stand one after the other from a place on.
@@ -95,14 +111,12 @@ pub fn statements_from(text: &[u8], at: usize) -> Statements
     requires { at ≤ length text.now }
     ensures { StatementsFrom text.now at result }
 {
-    let mut count = 0usize;
+    let mut count = 0;
     let mut end = at;
     while end < text.len() {
         match statement_at(text, end) {
-            Line::Statement(_, next) => {
-                end = next;
-            }
-            Line::Unknown => return Statements { count, end },
+            Some(statement) => end = statement.end,
+            None => return Statements { count, end },
         }
         count += 1;
     }
@@ -111,19 +125,19 @@ pub fn statements_from(text: &[u8], at: usize) -> Statements
 
 // The letters of the statements from a place on, the last statement's first, at the front of `out`.
 fn write_letters(text: &[u8], at: usize, count: usize, out: &mut [u8])
-    requires { (at ≤ length text.now) × (Wrote.Bytes count ≡ size (map letter) (read_from text.now at)) × (count ≤ length out.old) }
+    requires { (at ≤ length text.now) × (Ok count ≡ size (map letter) (read_from text.now at)) × (count ≤ length out.old) }
     ensures { out.new ≡ written out.old (map letter (list_in (read_from text.now at))) }
 {
     let mut next = at;
     let mut left = count;
     while next < text.len() {
         match statement_at(text, next) {
-            Line::Statement(gate, end) => {
+            Some(statement) => {
                 left -= 1;
-                out[left] = letter::letter_of(gate);
-                next = end;
+                out[left] = letter::letter_of(statement.gate);
+                next = statement.end;
             }
-            Line::Unknown => return,
+            None => return,
         }
     }
 }
@@ -131,24 +145,24 @@ fn write_letters(text: &[u8], at: usize, count: usize, out: &mut [u8])
 // OpenQASM 2.0 text into a gate list at the front of `out`.
 // Wrong, and refused: a last line with no line feed, or `cz q[0], q[1];`, taken; 7 before 23; other first lines read; the letters in the order of the
 // statements; 7 at 16,384 statements; a buffer that the letters fill refused.
-pub fn qasm_to_gates(text: &[u8], out: &mut [u8]) -> Wrote
-    ensures { LettersPromise text.now out.old out.new result }
+pub fn qasm_to_gates(text: &[u8], out: &mut [u8]) -> Result<usize, Refusal>
+    ensures { LettersPromise text.now out.old out.new (numbered result) }
 {
     let first = after(text, 0, &qasm::FIRST_LINES);
     if first == 0 {
-        return Wrote::Refused(23);
+        return Err(Refusal::Line);
     }
     let read = statements_from(text, first);
     if read.end < text.len() {
-        return Wrote::Refused(23);
+        return Err(Refusal::Line);
     }
     let count = read.count;
     if gate::LARGEST_LIST < count {
-        return Wrote::Refused(7);
+        return Err(Refusal::ListLength);
     }
     if out.len() < count {
-        return Wrote::Refused(6);
+        return Err(Refusal::Buffer);
     }
     write_letters(text, first, count, out);
-    Wrote::Bytes(count)
+    Ok(count)
 }

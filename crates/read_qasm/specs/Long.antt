@@ -1,5 +1,5 @@
 -- A text that is longer than any that is read: it earns 7, or 23 for a line that may stand far behind.
-use Rattle.std.specs.Prelude.{cond, List, ◌++◌, map, ◌≡◌, ℕ, ◌+◌, ◌≤◌, ◌<◌, eqb, length, take, drop}
+use Rattle.std.specs.Prelude.{cond, List, ◌++◌, map, ◌≡◌, ℕ, ◌+◌, ◌≤◌, ◌<◌, eqb, length, take, drop, Option, Some, None}
 use Rattle.file.specs.File.{Appended}
 use Rattle.letter.specs.Gate.{letter}
 use Rattle.gate.specs.Reading.{Reading, gates, refusal}
@@ -20,12 +20,16 @@ refused (refusal n) = refusal n
 unfoldable pub behind : List ℕ → Reading
 behind bs = refused (statements (lines bs))
 
--- the first r bytes are the first three lines and more than 16,384 statements, or r is 0 and a line is wrong; whatever follows
-pub record StartOf (bs : List ℕ) (r : ℕ) : Type 0 where
+-- the first r bytes are the first three lines and more than 16,384 statements, whatever follows
+pub record StartAt (bs : List ℕ) (r : ℕ) : Type 0 where
   pub inside : r ≤ length bs
-  pub long : 0 < r → longest_text < r
-  pub earns : 0 < r → (rest : List ℕ) → read_qasm (bs ++ rest) ≡ behind (drop r bs ++ rest)
-  pub wrong : r ≡ 0 → (rest : List ℕ) → read_qasm (bs ++ rest) ≡ refusal 23
+  pub long : longest_text < r
+  pub earns : (rest : List ℕ) → read_qasm (bs ++ rest) ≡ behind (drop r bs ++ rest)
+
+-- or a line is wrong, whatever follows
+abbrev pub StartOf : List ℕ → Option ℕ → Type 0
+StartOf bs (Some r) = StartAt bs r
+StartOf bs None = (rest : List ℕ) → read_qasm (bs ++ rest) ≡ refusal 23
 
 -- the first r bytes of a buffer earn there what the bytes bs earn, whatever follows, and begin with no statement
 pub record LeftOf (bs buffer : List ℕ) (r : ℕ) : Type 0 where

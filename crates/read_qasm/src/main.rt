@@ -2,15 +2,16 @@
 
 #![tactic(auto)]
 
-ghost use Rattle.std.specs.Prelude.{◌++◌, map, ◌≡◌, ◌+◌, ◌-◌, ◌≤◌, IfOk, IfErr, length, take, drop};
+ghost use Rattle.std.specs.Prelude.{◌++◌, map, ◌≡◌, ◌+◌, ◌≤◌, IfOk, IfErr, length, take};
 ghost use Rattle.io.specs.Counts.{IsPrefixLen};
+ghost use Rattle.refusal.specs.Refusal.{number};
 ghost use Rattle.file.specs.File.{Appended};
 ghost use Rattle.letter.specs.Gate.{letter};
 ghost use Rattle.qasm.specs.Reading.{read_qasm};
 ghost use Rattle.qasm.specs.Output.{output_of};
 ghost use Rattle.read_qasm.specs.Long.{longer, StartOf, LeftOf, Earned, last_refusal, OutputBehind};
 
-use file::Wrote;
+use refusal::Refusal;
 use std::io::{Read, Result};
 
 // A text of so many bytes has more than 16,384 statements, or a line that is none.
@@ -26,41 +27,27 @@ const MOST_TURNS: u64 = 1 << 48;
 fn answer(text: &[u8], out: &mut [u8; gate::LARGEST_LIST]) -> usize
     ensures { Appended (output_of (map letter) (read_qasm text.now)) 0 out.old out.new result × IsPrefixLen result out.new }
 {
-    let answer = qasm_read::qasm_to_gates(text, out);
-    match answer {
-        Wrote::Bytes(bytes) => bytes,
-        Wrote::Refused(refusal) => line::write_refused(refusal, out, 0),
+    match qasm_read::qasm_to_gates(text, out) {
+        Ok(bytes) => bytes,
+        Err(refusal) => line::write_refused(refusal.number(), out, 0),
     }
 }
 
-// How many bytes of a long text are its first three lines and statements; 0 if a line is wrong.
-fn start_of(text: &[u8]) -> usize
+// How many bytes of a long text are its first three lines and statements; none if a line is wrong.
+fn start_of(text: &[u8]) -> Option<usize>
     requires { longer ≤ length text.now }
     ensures { StartOf text.now result }
 {
     let first = qasm_read::after(text, 0, &qasm::FIRST_LINES);
     if first == 0 {
-        return 0;
+        return None;
     }
     let read = qasm_read::statements_from(text, first);
     let end = read.end;
     if end <= qasm::LONGEST_TEXT {
-        return 0;
+        return None;
     }
-    end
-}
-
-// Moves the bytes between two places to the front, and returns the place after them.
-fn move_down(bytes: &mut [u8], from: usize, end: usize) -> usize
-    requires { (from ≤ end) × (end ≤ length bytes.old) }
-    ensures { (length bytes.new ≡ length bytes.old) × (result ≡ end - from) × (take result bytes.new ≡ drop from (take end bytes.old)) }
-{
-    let mut i = 0usize;
-    while i < end - from {
-        bytes[i] = bytes[from + i];
-        i += 1;
-    }
-    i
+    Some(end)
 }
 
 // Drops the statements at the front of the first `end` bytes, and returns how many are left.
@@ -70,7 +57,8 @@ fn drop_statements(bytes: &mut [u8], end: usize) -> usize
 {
     let read = qasm_read::statements_from(&bytes[..end], 0);
     let from = read.end;
-    move_down(bytes, from, end)
+    bytes.copy_within(from..end, 0);
+    end - from
 }
 
 // More bytes behind the first `left` of a buffer, without the statements at the front of them all; returns how many are left.
@@ -83,45 +71,37 @@ fn take_in(more: &[u8], buffer: &mut [u8], left: usize) -> usize
 }
 
 // The refusal of a long text of which so many bytes are left, that begin with no statement.
-fn last_refusal(left: usize) -> u8
-    ensures { result ≡ last_refusal left }
+fn last_refusal(left: usize) -> Refusal
+    ensures { number result ≡ last_refusal left }
 {
     if left == 0 {
-        return 7;
+        Refusal::ListLength
+    } else {
+        Refusal::Line
     }
-    23
-}
-
-fn window() -> [u8; WINDOW]
-    ensures { 65557 ≡ length result }
-{
-    [0; WINDOW]
 }
 
 // Reads on behind the first bytes of a long text, and returns the refusal that it earns. Statements are dropped; as many bytes as any statement
 // has that begin with none earn 23, whatever follows (`waiting_stuck`).
-fn read_on<R: Read>(input: &mut R, text: &[u8]) -> Result<u8>
+fn read_on<R: Read>(input: &mut R, text: &[u8]) -> Result<Refusal>
     requires { length text.now ≡ longer }
-    ensures { IfOk result (λ n. Earned text.now n) }
+    ensures { IfOk result (λ r. Earned text.now (number r)) }
 {
-    let start = start_of(text);
-    if start == 0 {
-        return Ok(23);
-    }
-    let mut buffer = window();
+    let Some(start) = start_of(text) else {
+        return Ok(Refusal::Line);
+    };
+    let mut buffer = [0u8; WINDOW];
     let mut more = io::large_buffer();
     let mut left = take_in(&text[start..], &mut buffer, 0);
-    let mut turns = 0u64;
-    while turns < MOST_TURNS {
+    for _ in 0..MOST_TURNS {
         if qasm::LONGEST_STATEMENT <= left {
-            return Ok(23);
+            return Ok(Refusal::Line);
         }
         let n = streams::read_full(input, &mut more)?;
         if n == 0 {
             return Ok(last_refusal(left));
         }
         left = take_in(&more[..n], &mut buffer, left);
-        turns += 1;
     }
     Ok(last_refusal(left))
 }
@@ -137,18 +117,12 @@ fn answer_long<R: Read>(
     ensures err { IfErr result (λ _. out.new ≡ out.old) }
 {
     let refusal = read_on(input, text)?;
-    Ok(line::write_refused(refusal, out, 0))
-}
-
-fn text_buffer() -> [u8; LONGER]
-    ensures { 344132 ≡ length result }
-{
-    [0; LONGER]
+    Ok(line::write_refused(refusal.number(), out, 0))
 }
 
 fn main(rt: HostRuntime) -> Result<()> {
     let mut input = rt.stdin();
-    let mut text = text_buffer();
+    let mut text = [0u8; LONGER];
     let mut output = [0u8; gate::LARGEST_LIST];
     let length = streams::read_full(&mut input, &mut text)?;
     if length < LONGER {

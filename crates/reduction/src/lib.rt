@@ -13,8 +13,7 @@ ghost use Rattle.reduction.specs.Result.{Cuttable, StepOf, Whole, WholeOf};
 pub const MAX_GENERATORS: usize = 60;
 
 // What one cut gives: the generator's number, whether the rows grouped as 2 and 4, and the matrix that is left.
-#[derive(Drop)]
-#[derive(Clone, Copy)]
+#[derive(Clone, Copy, Debug, PartialEq, Eq)]
 pub struct Step {
     pub number: u8,
     pub loose: bool,
@@ -22,8 +21,7 @@ pub struct Step {
 }
 
 // What a reduction gives: the generators' numbers, of which the first `count` count, how many of these cuts were loose, and the matrix that remains.
-#[derive(Drop)]
-#[derive(Clone, Copy)]
+#[derive(Clone, Copy, Debug, PartialEq, Eq)]
 pub struct Normal {
     pub count: u8,
     pub loose: u8,
@@ -69,14 +67,11 @@ fn reduce(k: u8, m: [i64; 36]) -> Normal
     let mut numbers = [0u8; 60];
     let mut loose = 0u8;
     let mut matrix = m;
-    let mut n = 0u8;
-    while n < k {
+    for n in 0..k {
         let step = cut_once(matrix);
-        let next = step.matrix;
         numbers[n as usize] = step.number;
         loose += step.loose as u8;
-        matrix = next;
-        n += 1;
+        matrix = step.matrix;
     }
     Normal {
         count: k,

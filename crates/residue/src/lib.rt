@@ -40,13 +40,7 @@ pub fn pairs_of(g: usize) -> [u8; 6]
 pub fn row_masks(m: &[i64; 36]) -> [u8; 6]
     ensures { result ≡ tabulate (row_mask (entry m.now)) 0 6 }
 {
-    let mut masks = [0u8; 6];
-    let mut r = 0usize;
-    while r < 6 {
-        masks[r] = matrix::row_mask(m, r);
-        r += 1;
-    }
-    masks
+    std::array::from_fn(|r| matrix::row_mask(m, r))
 }
 
 // Whether the rows of each pair have equal masks.
@@ -54,16 +48,7 @@ fn pairs_fit(masks: &[u8; 6], pairs: [u8; 6]) -> bool
     requires { AreRows pairs }
     ensures { result ≡ pairs_fit masks.now pairs }
 {
-    let mut p = 0usize;
-    while p < 3 {
-        let i = pairs[p * 2] as usize;
-        let j = pairs[p * 2 + 1] as usize;
-        if masks[i] != masks[j] {
-            return false;
-        }
-        p += 1;
-    }
-    true
+    (0..3).all(|p| masks[pairs[p * 2] as usize] == masks[pairs[p * 2 + 1] as usize])
 }
 
 // The lowest-numbered generator whose every pair lies inside a group of rows, or 16.
@@ -71,15 +56,12 @@ pub fn first_fit(masks: [u8; 6]) -> usize
     ensures { result ≡ first_fit (mask_at masks) }
 {
     let table = PAIRS;
-    let mut g = 1usize;
-    while g < 16 {
-        let pairs = table[g - 1];
-        if pairs_fit(&masks, pairs) {
+    for g in 1..16 {
+        if pairs_fit(&masks, table[g - 1]) {
             return g;
         }
-        g += 1;
     }
-    g
+    16
 }
 
 // Whether some row has no odd entry.
@@ -87,12 +69,5 @@ pub fn first_fit(masks: [u8; 6]) -> usize
 pub fn has_even_row(masks: [u8; 6]) -> bool
     ensures { result ≡ has_even_row (mask_at masks) }
 {
-    let mut r = 0usize;
-    while r < 6 {
-        if u8::count_ones(masks[r]) == 0 {
-            return true;
-        }
-        r += 1;
-    }
-    false
+    masks.iter().any(|mask| mask.count_ones() == 0)
 }

@@ -3,6 +3,7 @@
 #![tactic(auto)]
 
 ghost use Rattle.std.specs.Prelude.{true, ◌≡◌, ◌+◌, ◌≤◌, length, get_or, take};
+ghost use Rattle.refusal.specs.Refusal.{numbered};
 ghost use Rattle.matrix.specs.List.{same_list};
 ghost use Rattle.matrix.specs.Range.{every};
 ghost use Rattle.matrix.specs.Matrix.{entry, listed};
@@ -13,7 +14,8 @@ ghost use Rattle.sheet_bytes.specs.Bytes.{sheet_bytes};
 ghost use Rattle.sheet_bytes.specs.Sheet.{is_number};
 ghost use Rattle.sheet.specs.Promise.{CutAgain, SheetRead, OperatorPromise};
 
-use file::{Answer, Read};
+use matrix::Least;
+use refusal::Refusal;
 
 // The product of the generators of the first `count` bytes and a Clifford.
 fn multiplied(bytes: &[u8], count: usize, columns: [u8; 6]) -> [i64; 36]
@@ -21,11 +23,9 @@ fn multiplied(bytes: &[u8], count: usize, columns: [u8; 6]) -> [i64; 36]
     ensures { result ≡ listed (normal_form (take count bytes.now) (columns_matrix columns)).matrix }
 {
     let mut m = times::identity();
-    let mut n = 0usize;
-    while n < count {
+    for n in 0..count {
         let next = times::times_generator(m, bytes[n] as usize);
         m = next;
-        n += 1;
     }
     times::times_columns(m, columns)
 }
@@ -38,46 +38,34 @@ fn is_sheet(bytes: &[u8], count: u8, numbers: [u8; 60], columns: [u8; 6]) -> boo
     if bytes.len() != count as usize + sheet_bytes::SHORTEST {
         return false;
     }
-    let mut n = 0usize;
-    while n < bytes.len() {
+    for n in 0..bytes.len() {
         if sheet_bytes::sheet_byte(count, numbers, columns, n) != bytes[n] {
             return false;
         }
-        n += 1;
     }
     true
 }
 
 // The operator (count, m) at its least exponent, if cutting it gives these bytes.
-fn cut_again(bytes: &[u8], count: u8, m: [i64; 36]) -> Read
+fn cut_again(bytes: &[u8], count: u8, m: [i64; 36]) -> Result<Least, Refusal>
     requires { (count ≤ 60) × Orthogonal (operator count (entry m)) }
-    ensures { CutAgain bytes.now count m result }
+    ensures { CutAgain bytes.now count m (numbered result) }
 {
     let normal = reduction::normal_form(count, m);
-    let t = normal.count;
-    let numbers = normal.numbers;
-    let remaining = normal.matrix;
-    let columns = clifford::columns_of(remaining);
-    if !is_sheet(bytes, t, numbers, columns) {
-        return file::refused(13);
+    let columns = clifford::columns_of(normal.matrix);
+    if !is_sheet(bytes, normal.count, normal.numbers, columns) {
+        return Err(Refusal::NotCanonical);
     }
     let mut matrix = m;
     let exponent = matrix::least_form(count, &mut matrix);
-    Read {
-        refusal: 0,
-        exponent,
-        matrix,
-    }
+    Ok(Least { exponent, matrix })
 }
 
-// The refusal of a sheet, or its operator at the least exponent.
-fn read_sheet(bytes: &[u8]) -> Read
-    ensures { SheetRead bytes.now result }
+// The operator of a sheet at its least exponent, or the sheet's refusal.
+fn read_sheet(bytes: &[u8]) -> Result<Least, Refusal>
+    ensures { SheetRead bytes.now (numbered result) }
 {
-    let refusal = sheet_bytes::bytes_refusal(bytes);
-    if refusal != 0 {
-        return file::refused(refusal);
-    }
+    sheet_bytes::check_bytes(bytes)?;
     let count = bytes.len() - sheet_bytes::SHORTEST;
     let columns = sheet_bytes::columns_from(bytes, bytes[bytes.len() - 1]);
     let m = multiplied(&bytes[1..], count, columns);
@@ -87,19 +75,13 @@ fn read_sheet(bytes: &[u8]) -> Read
 // A sheet into an operator file at the front of `out`.
 // Wrong, and refused: a sheet taken in that cutting would not give; the first generator multiplied in every place; the first byte taken for
 // a generator; the sign read from the last column; a buffer of 73 bytes taken for a long file.
-pub fn sheet_to_operator(bytes: &[u8], out: &mut [u8]) -> Answer
-    ensures { OperatorPromise bytes.now out.old out.new result }
+pub fn sheet_to_operator(bytes: &[u8], out: &mut [u8]) -> Result<u8, Refusal>
+    ensures { OperatorPromise bytes.now out.old out.new (numbered result) }
 {
-    let read = read_sheet(bytes);
-    let refusal = read.refusal;
-    if refusal != 0 {
-        return Answer::Refused(refusal);
+    let read = read_sheet(bytes)?;
+    if out.len() < file::length_for(read.exponent) {
+        return Err(Refusal::Buffer);
     }
-    let exponent = read.exponent;
-    let matrix = read.matrix;
-    if out.len() < file::length_for(exponent) {
-        return Answer::Refused(6);
-    }
-    file::encode(exponent, matrix, out);
-    Answer::Count(exponent)
+    file::encode(read.exponent, read.matrix, out);
+    Ok(read.exponent)
 }

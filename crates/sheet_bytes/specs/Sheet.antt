@@ -3,7 +3,8 @@ use Rattle.std.specs.Prelude.{Bool, not, cond, ◌&&◌, ◌||◌, List, ◌≡�
 use Rattle.matrix.specs.List.{same_list}
 use Rattle.matrix.specs.Range.{every}
 use Rattle.matrix.specs.Matrix.{listed}
-use Rattle.matrix.specs.Array.{Least, least_form}
+use Rattle.matrix.specs.declared.Least.{Least}
+use Rattle.matrix.specs.Array.{least_form}
 use Rattle.clifford.specs.Columns.{are_column_bytes, are_permutation, is_even, is_minus}
 use Rattle.sheet_bytes.specs.Bytes.{shortest, longest, sheet_of, sheet_columns, sheet_sign, sheet_operator}
 

@@ -4,9 +4,12 @@
 
 ghost use Rattle.std.specs.Prelude.{true, not, cond, ◌≡◌, ◌+◌, ◌≤◌, ◌<◌, length, get_or, take};
 ghost use Rattle.matrix.specs.Range.{every};
+ghost use Rattle.refusal.specs.Refusal.{numbered, refusal_of};
 ghost use Rattle.clifford.specs.Columns.{are_column_bytes, signed};
 ghost use Rattle.sheet_bytes.specs.Bytes.{shortest, longest, sign_byte, sheet_bytes, sheet_columns};
 ghost use Rattle.sheet_bytes.specs.Sheet.{is_counted, is_number, is_clifford, has_wrong_sign, bytes_refusal};
+
+use refusal::Refusal;
 
 // The fewest and the most bytes of a sheet: the count, six columns and the sign, and with them up to 60 generators.
 pub const SHORTEST: usize = 8;
@@ -55,18 +58,7 @@ fn are_numbers(bytes: &[u8], count: usize) -> bool
     requires { count ≤ length bytes.now }
     ensures { result ≡ every count (λ n. is_number (get_or bytes.now n 0)) }
 {
-    let mut n = 0usize;
-    while n < count {
-        let g = bytes[n];
-        if g < 1 {
-            return false;
-        }
-        if 15 < g {
-            return false;
-        }
-        n += 1;
-    }
-    true
+    bytes[..count].iter().all(|g| (1..=15).contains(g))
 }
 
 // The six column bytes, times a sign.
@@ -76,10 +68,8 @@ pub fn columns_from(bytes: &[u8], sign: u8) -> [u8; 6]
 {
     let at = bytes.len() - 7;
     let mut columns = [0u8; 6];
-    let mut c = 0usize;
-    while c < 6 {
+    for c in 0..6 {
         columns[c] = clifford::signed_byte(bytes[at + c], sign);
-        c += 1;
     }
     columns
 }
@@ -99,42 +89,34 @@ fn has_wrong_sign(columns: [u8; 6], sign: u8) -> bool
     1 < sign || 129 <= columns[0]
 }
 
-// The refusal of six column bytes and a last byte, or 0.
-fn columns_refusal(columns: [u8; 6], sign: u8) -> u8
-    ensures { result ≡ cond (not (are_column_bytes columns)) 11 (cond (not (is_clifford columns)) 12 (cond (has_wrong_sign columns sign) 15 0)) }
+// Whether six column bytes and a last byte earn no refusal.
+fn check_columns(columns: [u8; 6], sign: u8) -> Result<(), Refusal>
+    ensures { refusal_of (numbered result) ≡ cond (not (are_column_bytes columns)) 11 (cond (not (is_clifford columns)) 12 (cond (has_wrong_sign columns sign) 15 0)) }
 {
     if !clifford::are_column_bytes(columns) {
-        return 11;
+        return Err(Refusal::SheetByte);
     }
-    let clifford = is_clifford(columns);
-    let wrong_sign = has_wrong_sign(columns, sign);
-    if !clifford {
-        return 12;
+    if !is_clifford(columns) {
+        return Err(Refusal::NotClifford);
     }
-    if wrong_sign {
-        return 15;
+    if has_wrong_sign(columns, sign) {
+        return Err(Refusal::SheetSign);
     }
-    0
+    Ok(())
 }
 
-// The refusal that a sheet's bytes earn before its operator is looked at, or 0.
-pub fn bytes_refusal(bytes: &[u8]) -> u8
-    ensures { result ≡ bytes_refusal bytes.now 0 }
+// Whether a sheet's bytes earn no refusal before its operator is looked at.
+pub fn check_bytes(bytes: &[u8]) -> Result<(), Refusal>
+    ensures { refusal_of (numbered result) ≡ bytes_refusal bytes.now 0 }
 {
-    if bytes.len() < SHORTEST {
-        return 10;
+    if bytes.len() < SHORTEST || LONGEST < bytes.len() {
+        return Err(Refusal::SheetLength);
     }
-    if LONGEST < bytes.len() {
-        return 10;
+    if !is_counted(bytes) {
+        return Err(Refusal::SheetCount);
     }
-    let counted = is_counted(bytes);
-    let numbers = are_numbers(&bytes[1..], bytes.len() - SHORTEST);
-    if !counted {
-        return 16;
+    if !are_numbers(&bytes[1..], bytes.len() - SHORTEST) {
+        return Err(Refusal::SheetByte);
     }
-    if !numbers {
-        return 11;
-    }
-    let columns = columns_from(bytes, 0);
-    columns_refusal(columns, bytes[bytes.len() - 1])
+    check_columns(columns_from(bytes, 0), bytes[bytes.len() - 1])
 }

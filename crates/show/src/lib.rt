@@ -2,8 +2,7 @@
 
 #![tactic(auto)]
 
-use file::Answer;
-use operator::Cuts;
+use refusal::Refusal;
 use std::io::Result;
 
 // A byte that stands in no sheet and in no gate list.
@@ -11,14 +10,11 @@ pub const UNWRITTEN: u8 = 255;
 
 // What a call has written into a buffer of these bytes.
 pub fn front(buffer: &[u8]) -> &[u8] {
-    let mut n = 0usize;
-    while n < buffer.len() {
-        if buffer[n] == UNWRITTEN {
-            return &buffer[..n];
-        }
-        n += 1;
-    }
-    buffer
+    let end = buffer
+        .iter()
+        .position(|b| *b == UNWRITTEN)
+        .unwrap_or(buffer.len());
+    &buffer[..end]
 }
 
 pub fn show(rt: &impl Print, text: &[u8]) -> Result<()> {
@@ -39,16 +35,35 @@ pub fn show_bytes(rt: &impl Print, word: &[u8], bytes: &[u8]) -> Result<()> {
     Ok(())
 }
 
-// A number after a word, or the refusal's.
-pub fn show_answer(rt: &impl Print, word: &[u8], answer: Answer) -> Result<()> {
+// A refusal, by its number.
+pub fn show_refusal(rt: &impl Print, refusal: Refusal) -> Result<()> {
+    print!(rt; ": {refusal}")
+}
+
+// The same, and the end of the line.
+pub fn end_refused(rt: &impl Print, refusal: Refusal) -> Result<()> {
+    show_refusal(rt, refusal)?;
+    show(rt, b"\n")
+}
+
+// A number after a word, or a refusal.
+pub fn show_answer(
+    rt: &impl Print,
+    word: &[u8],
+    answer: std::result::Result<u8, Refusal>,
+) -> Result<()> {
     match answer {
-        Answer::Count(n) => show_number(rt, word, n),
-        Answer::Refused(n) => show_number(rt, b": refused ", n),
+        Ok(n) => show_number(rt, word, n),
+        Err(refusal) => show_refusal(rt, refusal),
     }
 }
 
 // The same, and the end of the line.
-pub fn end_line(rt: &impl Print, word: &[u8], answer: Answer) -> Result<()> {
+pub fn end_line(
+    rt: &impl Print,
+    word: &[u8],
+    answer: std::result::Result<u8, Refusal>,
+) -> Result<()> {
     show_answer(rt, word, answer)?;
     show(rt, b"\n")
 }
@@ -56,16 +71,15 @@ pub fn end_line(rt: &impl Print, word: &[u8], answer: Answer) -> Result<()> {
 // The count, the sheet and L of an operator file, or its refusal.
 pub fn show_cut(rt: &impl Print, file: &[u8]) -> Result<()> {
     let mut sheet = [UNWRITTEN; sheet_bytes::LONGEST];
-    let answer = operator::operator_to_sheet(file, &mut sheet);
-    match answer {
-        Cuts::Taken { count, loose } => {
-            show_number(rt, b": count ", count)?;
+    match operator::operator_to_sheet(file, &mut sheet) {
+        Ok(cuts) => {
+            show_number(rt, b": count ", cuts.count)?;
             show_bytes(rt, b", sheet", front(&sheet))?;
-            show_number(rt, b", loose ", loose)?;
+            show_number(rt, b", loose ", cuts.loose)?;
+            show(rt, b"\n")
         }
-        Cuts::Refused(n) => show_number(rt, b": refused ", n)?,
+        Err(refusal) => end_refused(rt, refusal),
     }
-    show(rt, b"\n")
 }
 
 // An operator file, by its count, sheet and L, or by its refusal.

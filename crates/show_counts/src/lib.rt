@@ -2,7 +2,7 @@
 
 #![tactic(auto)]
 
-use file::Answer;
+use refusal::Refusal;
 use std::io::Result;
 
 // Lists that are parted into two factors.
@@ -19,7 +19,7 @@ const CLIFFORD_LEFT: [u8; 6] = *b"hSZCHC";
 const NEGATIVE: [u8; 5] = *b"CHCZZ";
 
 // What the call for the operator of a list answers.
-fn count_of(letters: &[u8]) -> Answer {
+fn count_of(letters: &[u8]) -> std::result::Result<u8, Refusal> {
     let mut file = [0u8; file::LONG_LENGTH];
     gate::gates_to_operator(letters, &mut file)
 }

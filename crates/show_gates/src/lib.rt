@@ -2,16 +2,16 @@
 
 #![tactic(auto)]
 
-use file::Answer;
 use operator::Listed;
+use refusal::Refusal;
 use std::io::Result;
 
 // The operator that a gate list multiplies to.
 fn show_product(rt: &impl Print, letters: &[u8]) -> Result<()> {
     let mut file = [0u8; file::LONG_LENGTH];
     match gate::gates_to_operator(letters, &mut file) {
-        Answer::Count(count) => show::show_cut(rt, &file[..file::length_for(count)]),
-        Answer::Refused(n) => show::end_line(rt, b"", Answer::Refused(n)),
+        Ok(count) => show::show_cut(rt, &file[..file::length_for(count)]),
+        Err(refusal) => show::end_refused(rt, refusal),
     }
 }
 
@@ -45,15 +45,7 @@ pub fn same_case(rt: &impl Print, letters: &[u8], name: &[u8], file: &[u8]) -> R
 
 // How many letters are this one.
 fn number_of(letters: &[u8], letter: u8) -> usize {
-    let mut count = 0usize;
-    let mut n = 0usize;
-    while n < letters.len() {
-        if letters[n] == letter {
-            count += 1;
-        }
-        n += 1;
-    }
-    count
+    letters.iter().filter(|b| **b == letter).count()
 }
 
 // The letters C and Z of a gate list, and the operator that it multiplies to.
@@ -65,24 +57,23 @@ fn show_list(rt: &impl Print, letters: &[u8]) -> Result<()> {
 }
 
 // What was written into the buffer for a gate list, if it has as many letters as the answer says.
-fn end_list(rt: &impl Print, answer: Listed, buffer: &[u8]) -> Result<()> {
+fn end_list(
+    rt: &impl Print,
+    answer: std::result::Result<Listed, Refusal>,
+    buffer: &[u8],
+) -> Result<()> {
     match answer {
-        Listed::Letters {
-            count,
-            letters,
-            loose,
-            sign,
-        } => {
-            show::show_number(rt, b": count ", count)?;
-            show::show_number(rt, b", loose ", loose)?;
-            show::show_number(rt, b", sign ", sign)?;
+        Ok(listed) => {
+            show::show_number(rt, b": count ", listed.count)?;
+            show::show_number(rt, b", loose ", listed.loose)?;
+            show::show_number(rt, b", sign ", listed.sign)?;
             let list = show::front(buffer);
-            if list.len() == letters {
+            if list.len() == listed.letters {
                 show_list(rt, list)?;
             }
             Ok(())
         }
-        Listed::Refused(n) => show::end_line(rt, b"", Answer::Refused(n)),
+        Err(refusal) => show::end_refused(rt, refusal),
     }
 }
 

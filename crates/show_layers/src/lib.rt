@@ -2,18 +2,17 @@
 
 #![tactic(auto)]
 
-use file::Answer;
 use std::io::Result;
 
 // The answer for a program, where the buffer holds bytes that are no layers.
 fn show_layers(rt: &impl Print, blocks: &[u8], out: &mut [u8]) -> Result<()> {
     match layer::blocks_to_layers(blocks, out) {
-        Answer::Count(n) => {
+        Ok(n) => {
             show::show_number(rt, b": layers ", n)?;
             show::show_bytes(rt, b", layer", show::front(out))?;
             show::show(rt, b"\n")
         }
-        Answer::Refused(n) => show::end_line(rt, b"", Answer::Refused(n)),
+        Err(refusal) => show::end_refused(rt, refusal),
     }
 }
 
@@ -33,11 +32,9 @@ fn two_bytes_case(rt: &impl Print, blocks: &[u8]) -> Result<()> {
 
 // 64 blocks on qubits 0 and 1.
 fn same_blocks() -> [u8; 128] {
-    let mut blocks = [0u8; 128];
-    let mut at = 1usize;
-    while at < 128 {
-        blocks[at] = 1;
-        at += 2;
+    let mut blocks = [0; 128];
+    for n in 0..64 {
+        blocks[2 * n + 1] = 1;
     }
     blocks
 }

@@ -2,7 +2,6 @@
 
 #![tactic(auto)]
 
-use file::{Answer, Wrote};
 use std::io::Result;
 
 // A gate list, by its text.
@@ -11,11 +10,11 @@ fn letters_case(rt: &impl Print, name: &[u8], letters: &[u8]) -> Result<()> {
     show::show(rt, b"text of ")?;
     show::show(rt, name)?;
     match qasm::gates_to_qasm(letters, &mut text) {
-        Wrote::Bytes(_) => {
+        Ok(_) => {
             show::show(rt, b":\n")?;
             show::show(rt, show::front(&text))
         }
-        Wrote::Refused(n) => show::end_line(rt, b"", Answer::Refused(n)),
+        Err(refusal) => show::end_refused(rt, refusal),
     }
 }
 
@@ -24,12 +23,12 @@ fn text_case(rt: &impl Print, name: &[u8], text: &[u8]) -> Result<()> {
     let mut letters = [show::UNWRITTEN; 16];
     show::show(rt, name)?;
     match qasm_read::qasm_to_gates(text, &mut letters) {
-        Wrote::Bytes(_) => {
+        Ok(_) => {
             show::show(rt, b": letters ")?;
             show::show(rt, show::front(&letters))?;
             show::show(rt, b"\n")
         }
-        Wrote::Refused(n) => show::end_line(rt, b"", Answer::Refused(n)),
+        Err(refusal) => show::end_refused(rt, refusal),
     }
 }
 

@@ -2,9 +2,7 @@
 
 #![tactic(auto)]
 
-use file::Answer;
 use std::io::Result;
-use unitary_gates::Synthesis;
 
 // The unitaries of P5's cases, a row a line after the exponent: four bytes an entry, the real part and the imaginary part.
 const IDENTITY: [u8; 65] = *b"\0\
@@ -60,20 +58,15 @@ fn unitary_case(rt: &impl Print, name: &[u8], bytes: &[u8]) -> Result<()> {
     let mut gates = [show::UNWRITTEN; gate::GATES_BUFFER];
     show::show(rt, name)?;
     match unitary_gates::unitary_to_gates(bytes, &mut gates) {
-        Synthesis::Letters {
-            count,
-            letters: _,
-            loose,
-            power,
-        } => {
-            show::show_number(rt, b": count ", count)?;
-            show::show_number(rt, b", loose ", loose)?;
-            show::show_number(rt, b", omega ", power)?;
+        Ok(list) => {
+            show::show_number(rt, b": count ", list.count)?;
+            show::show_number(rt, b", loose ", list.loose)?;
+            show::show_number(rt, b", omega ", list.power)?;
             show::show(rt, b", gates ")?;
             show::show(rt, show::front(&gates))?;
             show::show(rt, b"\n")
         }
-        Synthesis::Refused(n) => show::end_line(rt, b"", Answer::Refused(n)),
+        Err(refusal) => show::end_refused(rt, refusal),
     }
 }
 

@@ -11,43 +11,24 @@ fn rows_below(columns: [u8; 6], c: usize) -> u8
     ensures { (result < 6) × (result ≡ below (row_of (get_or columns c 0)) (map row_of (drop (c + 1) columns))) }
 {
     let row = clifford::row_of(columns[c]);
-    let mut n = 0u8;
-    let mut d = 6usize;
-    while c + 1 < d {
-        d -= 1;
-        if clifford::row_of(columns[d]) < row {
-            n += 1;
-        }
-    }
-    n
+    columns[c + 1..]
+        .iter()
+        .filter(|b| clifford::row_of(**b) < row)
+        .count() as u8
 }
 
 // How many pairs of columns have their rows in the other order.
 fn inversions_of(columns: [u8; 6]) -> u8
     ensures { (result < 64) × (result ≡ inversions (map row_of columns)) }
 {
-    let mut n = 0u8;
-    let mut c = 6usize;
-    while 0 < c {
-        c -= 1;
-        n = rows_below(columns, c) + n;
-    }
-    n
+    (0..6).map(|c| rows_below(columns, c)).sum()
 }
 
 // How many columns have -1.
 fn minuses_of(columns: [u8; 6]) -> u8
     ensures { (result < 7) × (result ≡ minuses columns) }
 {
-    let mut n = 0u8;
-    let mut c = 6usize;
-    while 0 < c {
-        c -= 1;
-        if 129 <= columns[c] {
-            n += 1;
-        }
-    }
-    n
+    columns.iter().filter(|b| 129 <= **b).count() as u8
 }
 
 // Whether the permutation and its minus signs make an even number: the sign of the determinant.

@@ -2,8 +2,7 @@
 
 #![tactic(auto)]
 
-ghost use Rattle.std.specs.Prelude.{◌≡◌, ◌-◌, ◌^◌, ◌<◌, ◌≤◌, pos};
-ghost use Rattle.matrix.specs.Integer.{equals};
+ghost use Rattle.std.specs.Prelude.{◌≡◌, ◌-◌, ◌^◌, ◌<◌, ◌≤◌};
 ghost use Rattle.gaussian.specs.Gaussian.{Within, ◌⊗◌, product};
 ghost use Rattle.unitary.specs.Unitary.{Unitary, quotient, matrix_of};
 ghost use Rattle.unitary.specs.Form.{row_at, column_at, compound, basis, six_form};
@@ -14,22 +13,20 @@ use gaussian::Gaussian;
 
 // The row and the column of each place above the diagonal.
 // Wrong, and refused: another row or column for a place; the columns of two places exchanged.
-const ROWS: [usize; 6] = [0, 0, 0, 1, 1, 2];
-
-const COLUMNS: [usize; 6] = [1, 2, 3, 2, 3, 3];
+const PAIRS: [(usize, usize); 6] = [(0, 1), (0, 2), (0, 3), (1, 2), (1, 3), (2, 3)];
 
 fn row_at(p: usize) -> usize
     requires { p < 6 }
     ensures { (result ≡ row_at p) × (result < 4) }
 {
-    ROWS[p]
+    PAIRS[p].0
 }
 
 fn column_at(p: usize) -> usize
     requires { p < 6 }
     ensures { (result ≡ column_at p) × (result < 4) }
 {
-    COLUMNS[p]
+    PAIRS[p].1
 }
 
 // The product of entries (a, c) and (b, d).
@@ -57,17 +54,22 @@ fn minor(n: &[i64; 32], p: usize, q: usize) -> Gaussian
     gaussian::minus(x, y)
 }
 
+// The units.
+const ONE: Gaussian = Gaussian { re: 1, im: 0 };
+
+const MINUS_ONE: Gaussian = Gaussian { re: -1, im: 0 };
+
+const I: Gaussian = Gaussian { re: 0, im: 1 };
+
+const MINUS_I: Gaussian = Gaussian { re: 0, im: -1 };
+
 // The basis: the lower place of each matrix, and its entries there and at the complementary place.
 // Wrong, and refused: one place for all; the places of two pairs exchanged; another sign or another phase of an entry.
 const PLACES: [usize; 6] = [0, 0, 2, 1, 1, 2];
 
-const LOWER_RE: [i64; 6] = [0, 1, 0, -1, 0, 1];
+const LOWER: [Gaussian; 6] = [I, ONE, MINUS_I, MINUS_ONE, I, ONE];
 
-const LOWER_IM: [i64; 6] = [1, 0, -1, 0, 1, 0];
-
-const UPPER_RE: [i64; 6] = [0, 1, 0, 1, 0, 1];
-
-const UPPER_IM: [i64; 6] = [-1, 0, 1, 0, 1, 0];
+const UPPER: [Gaussian; 6] = [MINUS_I, ONE, I, ONE, I, ONE];
 
 fn place_of(c: usize) -> usize
     requires { c < 6 }
@@ -80,20 +82,14 @@ fn lower(c: usize) -> Gaussian
     requires { c < 6 }
     ensures { (result ≡ basis (place_of c) c) × Within 1 result }
 {
-    Gaussian {
-        re: LOWER_RE[c],
-        im: LOWER_IM[c],
-    }
+    LOWER[c]
 }
 
 fn upper(c: usize) -> Gaussian
     requires { c < 6 }
     ensures { (result ≡ basis (5 - place_of c) c) × Within 1 result }
 {
-    Gaussian {
-        re: UPPER_RE[c],
-        im: UPPER_IM[c],
-    }
+    UPPER[c]
 }
 
 // The minors times the basis: two of the six products count.
@@ -121,8 +117,7 @@ fn form_entry(n: &[i64; 32], r: usize, c: usize) -> Gaussian
 }
 
 // All entries, twice, by their parts.
-#[derive(Drop)]
-#[derive(Clone, Copy)]
+#[derive(Clone, Copy, Debug, PartialEq, Eq)]
 struct Parts {
     re: [i64; 36],
     im: [i64; 36],
@@ -135,43 +130,24 @@ fn parts_of(n: &[i64; 32]) -> Parts
 {
     let mut re = [0i64; 36];
     let mut im = [0i64; 36];
-    let mut i = 0usize;
-    while i < 36 {
+    for i in 0..36 {
         let x = form_entry(n, i / 6, i % 6);
-        let a = x.re;
-        let b = x.im;
-        re[i] = a;
-        im[i] = b;
-        i += 1;
+        re[i] = x.re;
+        im[i] = x.im;
     }
     Parts { re, im }
 }
 
-// Wrong, and refused: 1 in place of 0; true for every number.
-fn equals_zero(x: i64) -> bool
-    ensures { result ≡ equals x (pos 0) }
-{
-    x == 0
-}
-
 // Whether all numbers are 0.
-// Wrong, and refused: the first row alone; the first half alone.
+// Wrong, and refused: the first row alone; the first half alone; 1 in place of 0; true for every number.
 fn is_zero(m: &[i64; 36]) -> bool
     ensures { result ≡ is_zero m.now }
 {
-    let mut i = 0usize;
-    while i < 36 {
-        if !equals_zero(m[i]) {
-            return false;
-        }
-        i += 1;
-    }
-    true
+    m.iter().all(|x| *x == 0)
 }
 
 // An operator: its exponent and its matrix, row by row.
-#[derive(Drop)]
-#[derive(Clone, Copy)]
+#[derive(Clone, Copy, Debug, PartialEq, Eq)]
 pub struct Form {
     pub exponent: u8,
     pub matrix: [i64; 36],

@@ -1,10 +1,8 @@
 -- The cases of document 02, P13: programs with their layers, and refused ones; a table of cases, and the test that each passes.
-use Rattle.std.specs.Prelude.{Bool, true, false, ◌&&◌, ℕ, suc, ◌*◌, eqb, replicate}
+use Rattle.std.specs.Prelude.{Bool, true, false, ◌&&◌, ℕ, suc, ◌*◌, eqb, replicate, Result, Ok, Err}
 use mathlib.Core.List.{List, [], ◌∷◌, flatten}
 use Rattle.matrix.specs.Range.{tabulate}
 use Rattle.matrix.specs.List.{same_list}
-use Rattle.file.specs.declared.Answer.{Answer}
-use Rattle.file.specs.declared.Answer.TheVariants.{Count, Refused}
 use Rattle.layer.specs.Promise.{layer_bytes, layer_answer}
 use Rattle.starred.specs.Trials.{counts}
 
@@ -15,9 +13,9 @@ pub data Trial : Type 0 where
   refused : List ℕ → ℕ → ℕ → Trial
 
 -- whether an answer is this refusal
-abbrev is_refused : Answer → ℕ → Bool
-is_refused (Count m) n = false
-is_refused (Refused m) n = eqb m n
+abbrev is_refused : Result ℕ ℕ → ℕ → Bool
+is_refused (Ok m) n = false
+is_refused (Err m) n = eqb m n
 
 abbrev pub passes : Trial → Bool
 passes (layered b ls n) = counts (layer_answer b 64) n && same_list (layer_bytes b) ls

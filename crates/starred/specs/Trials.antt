@@ -1,13 +1,11 @@
 -- Document 01's trial cuts that are marked to be proved of the definitions, with the first byte of document 02, P4, the last byte of P2 and the
 -- L of P3; these requests' own cases, the orders of P1, the walks of P6, the bundles of P7, the two kinds of file of P10, the counts of P11 and the pairs of
 -- P12: a table of cases, and the test that each passes.
-use Rattle.std.specs.Prelude.{Bool, true, false, ◌&&◌, List, [], ◌∷◌, ◌++◌, ℕ, ◌+◌, ◌-◌, ◌^◌, eqb, pos, negsuc, ◌*ℤ◌, take, replicate}
+use Rattle.std.specs.Prelude.{Bool, true, false, ◌&&◌, List, [], ◌∷◌, ◌++◌, ℕ, ◌+◌, ◌-◌, ◌^◌, eqb, pos, negsuc, ◌*ℤ◌, take, replicate, Result, Ok, Err}
 use Rattle.matrix.specs.List.{same_list}
 use Rattle.matrix.specs.Matrix.{Matrix, δ, replaced, listed}
 use Rattle.matrix.specs.Operator.{Operator, times_operator, inverse, negative}
 use Rattle.matrix.specs.Array.{before_odd}
-use Rattle.file.specs.declared.Answer.{Answer}
-use Rattle.file.specs.declared.Answer.TheVariants.{Count, Refused}
 use Rattle.file.specs.File.{Kind, short_file, long_file, file_as, file_of}
 use Rattle.letter.specs.declared.Gate.{Gate}
 use Rattle.letter.specs.declared.Gate.TheVariants.{H1, Cz, Cs}
@@ -53,9 +51,9 @@ pub data Trial : Type 0 where
   apart : Operator → Operator → ℕ → Trial
 
 -- whether an answer is this count, figure or number of layers
-abbrev pub counts : Answer → ℕ → Bool
-counts (Count m) n = eqb m n
-counts (Refused m) n = false
+abbrev pub counts : Result ℕ ℕ → ℕ → Bool
+counts (Ok m) n = eqb m n
+counts (Err m) n = false
 
 abbrev pub passes : Trial → Bool
 passes (cuts b s l) = eqb (file_refusal b) 0 && (same_list (file_sheet b) s && eqb (file_loose b) l)

@@ -1,7 +1,5 @@
 -- What `take_sheet` writes: the bytes of a sheet, or the one line `refused N`, and nothing where the argument is no number.
-use Rattle.std.specs.Prelude.{cond, List, [], ℕ, ◌-◌, eqb, length, drop}
-use Rattle.text_read.specs.declared.Number.{Number}
-use Rattle.text_read.specs.declared.Number.TheVariants.{Is, Unknown}
+use Rattle.std.specs.Prelude.{cond, List, [], ℕ, ◌-◌, eqb, length, drop, Option, Some, None}
 use Rattle.text.specs.Text.{refused_line}
 use Rattle.bundle.specs.Bundle.{bundle_refusal, sheet_in}
 
@@ -10,9 +8,9 @@ unfoldable pub sheet_output : List ℕ → ℕ → List ℕ
 sheet_output b n = cond (eqb (bundle_refusal b n) 0) (sheet_in b n) (refused_line (bundle_refusal b n))
 
 -- for the bytes b and what the argument is
-abbrev pub output_of : List ℕ → Number → List ℕ
-output_of b (Is n) = sheet_output b n
-output_of b Unknown = []
+abbrev pub output_of : List ℕ → Option ℕ → List ℕ
+output_of b (Some n) = sheet_output b n
+output_of b None = []
 
 -- "the last two bytes"
 abbrev pub last_two : List ℕ → List ℕ

@@ -11,7 +11,6 @@ ghost use Rattle.take_sheet.specs.Input.{KeptOf};
 
 use std::env::{Env, FillError};
 use std::io::{Read, Result};
-use text_read::Number;
 
 // One byte more than the longest bundle has: the largest offset, a part of 199 bytes there, and the trailer.
 const LONGER: usize = 65535 + 199 + (2 * bundle::MOST_SHEETS + 2) + 1;
@@ -23,22 +22,19 @@ const MOST_TURNS: u64 = 1 << 48;
 fn write_sheet(bundle: &[u8], n: u64, out: &mut [u8; 256]) -> usize
     ensures { Appended (sheet_output bundle.now n) 0 out.old out.new result × IsPrefixLen result out.new }
 {
-    let refusal = bundle::bundle_refusal(bundle, n);
-    if refusal != 0 {
-        return line::write_refused(refusal, out, 0);
+    match bundle::check_bundle(bundle, n) {
+        Ok(()) => text::write_bytes(bundle::bundle_sheet(bundle, n), out, 0),
+        Err(refusal) => line::write_refused(refusal.number(), out, 0),
     }
-    let sheet = bundle::bundle_sheet(bundle, n);
-    text::write_bytes(sheet, out, 0)
 }
 
 // The bytes for a bundle and an argument, or nothing.
 fn answer(bundle: &[u8], number: &[u8], out: &mut [u8; 256]) -> usize
     ensures { Appended (output_of bundle.now (number_of number.now)) 0 out.old out.new result × IsPrefixLen result out.new }
 {
-    let n = text_read::read_number(number);
-    match n {
-        Number::Is(n) => write_sheet(bundle, n, out),
-        Number::Unknown => 0,
+    match text_read::read_number(number) {
+        Some(n) => write_sheet(bundle, n, out),
+        None => 0,
     }
 }
 
@@ -57,10 +53,8 @@ fn push_all(more: &[u8], bytes: &mut [u8])
     requires { 2 ≤ length bytes.old }
     ensures { (length bytes.new ≡ length bytes.old) × (last_two bytes.new ≡ last_two (bytes.old ++ more.now)) }
 {
-    let mut i = 0usize;
-    while i < more.len() {
-        push(more[i], bytes);
-        i += 1;
+    for &b in more {
+        push(b, bytes);
     }
 }
 
@@ -71,14 +65,12 @@ fn read_on<R: Read>(input: &mut R, bytes: &mut [u8]) -> Result<()>
     ensures err { OnErr result (length bytes.new ≡ length bytes.old) }
 {
     let mut more = io::large_buffer();
-    let mut turns = 0u64;
-    while turns < MOST_TURNS {
+    for turns in 0..MOST_TURNS {
         let n = streams::read_full(input, &mut more)?;
         if n == 0 {
             return Ok(());
         }
         push_all(&more[..n], bytes);
-        turns += 1;
     }
     Ok(())
 }
@@ -98,13 +90,6 @@ fn read_input<R: Read>(input: &mut R, bytes: &mut [u8]) -> Result<usize>
     Ok(bytes.len())
 }
 
-// A buffer longer than any bundle.
-fn buffer() -> [u8; LONGER]
-    ensures { 66761 ≡ length result }
-{
-    [0; LONGER]
-}
-
 fn usage(rt: &impl Eprint) -> Result<()> {
     rt.eprintln("usage: take_sheet N")
 }
@@ -117,7 +102,7 @@ fn main(rt: HostRuntime) -> Result<()> {
     if !is_last || m == 0 {
         return usage(&rt);
     }
-    let mut bundle = buffer();
+    let mut bundle = [0u8; LONGER];
     let length = read_input(&mut rt.stdin(), &mut bundle)?;
     let mut output = [0u8; 256];
     let end = answer(&bundle[..length], &number[..m], &mut output);

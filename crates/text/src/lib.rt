@@ -22,12 +22,9 @@ pub fn write_bytes(bytes: &[u8], out: &mut [u8], at: usize) -> usize
     requires { at + length bytes.now ≤ length out.old }
     ensures { Appended bytes.now at out.old out.new result }
 {
-    let mut i = 0usize;
-    while i < bytes.len() {
-        out[at + i] = bytes[i];
-        i += 1;
-    }
-    at + i
+    let end = at + bytes.len();
+    out[at..end].copy_from_slice(bytes);
+    end
 }
 
 // A number in decimal.
@@ -63,11 +60,8 @@ fn write_spaced(numbers: &[u8], out: &mut [u8], at: usize) -> usize
     ensures { Appended (spaced numbers.now) at out.old out.new result }
 {
     let mut next = at;
-    let mut i = 0usize;
-    while i < numbers.len() {
-        let end = write_after_space(numbers[i], out, next);
-        next = end;
-        i += 1;
+    for n in numbers {
+        next = write_after_space(*n, out, next);
     }
     next
 }

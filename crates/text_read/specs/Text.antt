@@ -1,7 +1,5 @@
 -- What the programs read: decimal numbers as arguments, and text that ends in a line feed.
-use Rattle.std.specs.Prelude.{Bool, cond, ◌&&◌, List, [], ◌∷◌, ℕ, ◌+◌, ◌*◌, ◌-◌, eqb, leb, ltb, length, get_or, take}
-use Rattle.text_read.specs.declared.Number.{Number}
-use Rattle.text_read.specs.declared.Number.TheVariants.{Is, Unknown}
+use Rattle.std.specs.Prelude.{Bool, cond, ◌&&◌, List, [], ◌∷◌, ℕ, ◌+◌, ◌*◌, ◌-◌, eqb, leb, ltb, length, get_or, take, Option, Some, None}
 
 -- ---- numbers read
 
@@ -17,13 +15,13 @@ abbrev pub is_digit : ℕ → Bool
 is_digit b = leb 48 b && leb b 57
 
 -- the digits behind those of n
-unfoldable pub number_from : ℕ → List ℕ → Number
-number_from n [] = Is (capped n)
-number_from n (b ∷ bs) = cond (is_digit b) (number_from (10 * n + (b - 48)) bs) Unknown
+unfoldable pub number_from : ℕ → List ℕ → Option ℕ
+number_from n [] = Some (capped n)
+number_from n (b ∷ bs) = cond (is_digit b) (number_from (10 * n + (b - 48)) bs) None
 
 -- one digit or more, and nothing else
-unfoldable pub number_of : List ℕ → Number
-number_of [] = Unknown
+unfoldable pub number_of : List ℕ → Option ℕ
+number_of [] = None
 number_of (b ∷ bs) = number_from 0 (b ∷ bs)
 
 -- ---- text read

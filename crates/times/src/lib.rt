@@ -47,10 +47,8 @@ fn pair_row(m: &[i64; 36], r: usize, partners: [usize; 6], out: &mut [i64; 36])
     requires { (r < 6) × ((c : ℕ) → c < 6 → get_or partners c 0 < 6) × Bounded (2 ^ 30) (entry m.now) × (length out.old ≡ 36) }
     ensures { out.new ≡ listed (replaced r (λ c. pair_entry (entry m.now) r c (get_or partners c 0)) (entry out.old)) }
 {
-    let mut c = 0usize;
-    while c < 6 {
+    for c in 0..6 {
         out[r * 6 + c] = pair_entry(m, r, c, partners[c]);
-        c += 1;
     }
 }
 
@@ -60,10 +58,8 @@ fn times_pairs(m: &[i64; 36], partners: [usize; 6]) -> [i64; 36]
     ensures { result ≡ listed (λ r c. pair_entry (entry m.now) r c (get_or partners c 0)) }
 {
     let mut out = [0i64; 36];
-    let mut r = 0usize;
-    while r < 6 {
+    for r in 0..6 {
         pair_row(m, r, partners, &mut out);
-        r += 1;
     }
     out
 }
@@ -101,10 +97,8 @@ fn signed_row(m: &[i64; 36], r: usize, columns: [u8; 6], out: &mut [i64; 36])
     requires { (r < 6) × (are_permutation columns ≡ true) × Bounded (2 ^ 30) (entry m.now) × (length out.old ≡ 36) }
     ensures { out.new ≡ listed (replaced r (λ c. signed_entry (entry m.now) r (get_or columns c 0)) (entry out.old)) }
 {
-    let mut c = 0usize;
-    while c < 6 {
+    for c in 0..6 {
         out[r * 6 + c] = signed_entry(m, r, columns[c]);
-        c += 1;
     }
 }
 
@@ -114,10 +108,8 @@ pub fn times_columns(m: [i64; 36], columns: [u8; 6]) -> [i64; 36]
     ensures { result ≡ listed (product 6 (entry m) (columns_matrix columns)) }
 {
     let mut out = [0i64; 36];
-    let mut r = 0usize;
-    while r < 6 {
+    for r in 0..6 {
         signed_row(&m, r, columns, &mut out);
-        r += 1;
     }
     out
 }
@@ -126,21 +118,12 @@ pub fn times_columns(m: [i64; 36], columns: [u8; 6]) -> [i64; 36]
 fn unit(r: usize, c: usize) -> i64
     ensures { result ≡ δ r c }
 {
-    if r == c {
-        return 1;
-    }
-    0
+    (r == c) as i64
 }
 
 // The identity.
 pub fn identity() -> [i64; 36]
     ensures { result ≡ listed δ }
 {
-    let mut out = [0i64; 36];
-    let mut n = 0usize;
-    while n < 36 {
-        out[n] = unit(n / 6, n % 6);
-        n += 1;
-    }
-    out
+    std::array::from_fn(|n| unit(n / 6, n % 6))
 }

@@ -29,11 +29,9 @@ fn diagonal(k: u8, first: u16, x: u16) -> [u8; file::SHORT_LENGTH] {
     let lo = (x % 256) as u8;
     let hi = (x / 256) as u8;
     let mut file = [0u8; file::SHORT_LENGTH];
-    let mut at = 1usize;
-    while at < file::SHORT_LENGTH {
-        file[at] = lo;
-        file[at + 1] = hi;
-        at += 14;
+    for n in 0..6 {
+        file[14 * n + 1] = lo;
+        file[14 * n + 2] = hi;
     }
     file[0] = k;
     file[1] = (first % 256) as u8;

@@ -1,5 +1,6 @@
 -- A unitary's 65 bytes (document 02, P5), and the refusals 17, 18 and 19.
-use Rattle.std.specs.Prelude.{Bool, not, cond, ◌||◌, List, ◌≡◌, ℕ, ◌/◌, ◌%◌, ◌^◌, ◌≤◌, eqb, ltb, ℤ, pos, nat_abs, ◌*ℤ◌, length, get_or}
+use Rattle.std.specs.Prelude.{Bool, not, cond, ◌||◌, List, ◌≡◌, ℕ, ◌/◌, ◌%◌, ◌^◌, ◌≤◌, eqb, ltb, ℤ, pos, nat_abs, ◌*ℤ◌, length, get_or, Result}
+use Rattle.refusal.specs.Refusal.{RefusedOr}
 use Rattle.std.specs.Int.Signed.{le_z}
 use Rattle.matrix.specs.Range.{every, tabulate}
 use Rattle.matrix.specs.Matrix.{δ}
@@ -48,9 +49,12 @@ entries_refusal U = cond (not (is_small U.exponent U.matrix)) 18 (cond (not (is_
 unfoldable pub unitary_refusal : List ℕ → ℕ
 unitary_refusal b = cond (not (eqb (length b) unitary_length) || ltb largest_unitary (file_exponent b)) 17 (entries_refusal (unitary_of b))
 
+-- the exponent and the entries of 65 bytes
+pub record EntriesOf (b : List ℕ) (r : Entries) : Type 0 where
+  pub exponent : r.exponent ≡ file_exponent b
+  pub entries : r.entries ≡ unitary_entries b
+  pub narrow : Narrow r.entries
+
 -- what reading gives: the refusal or, where there is none, the exponent and the entries
-pub record ReadAs (b : List ℕ) (r : Entries) : Type 0 where
-  pub refusal : r.refusal ≡ unitary_refusal b
-  pub exponent : unitary_refusal b ≡ 0 → r.exponent ≡ file_exponent b
-  pub entries : unitary_refusal b ≡ 0 → r.entries ≡ unitary_entries b
-  pub narrow : unitary_refusal b ≡ 0 → Narrow r.entries
+abbrev pub ReadAs : List ℕ → Result Entries ℕ → Type 0
+ReadAs b r = RefusedOr (unitary_refusal b) (EntriesOf b) r

@@ -3,11 +3,13 @@
 #![tactic(auto)]
 
 ghost use Rattle.std.specs.Prelude.{◌≡◌, ◌^◌, ◌<◌, ◌≤◌, length};
+ghost use Rattle.refusal.specs.Refusal.{numbered};
 ghost use Rattle.gaussian.specs.Gaussian.{Within, conj, norm_of, product, adjoint};
 ghost use Rattle.unitary.specs.Unitary.{matrix_of};
 ghost use Rattle.unitary_file.specs.Unitary.{Narrow, ReadAs, is_small, is_unitary, unitary_at, unitary_entries, unitary_length};
 
 use gaussian::Gaussian;
+use refusal::Refusal;
 
 // The bytes of a unitary.
 pub const UNITARY_LENGTH: usize = 65;
@@ -15,24 +17,11 @@ pub const UNITARY_LENGTH: usize = 65;
 // The largest exponent that they may carry.
 pub const LARGEST_UNITARY: u8 = 29;
 
-// What the bytes give: the number of a refusal, or 0 with the exponent and the entries, row by row, real then imaginary part.
-#[derive(Drop)]
+// A unitary: its exponent, and its entries row by row, real then imaginary part.
 #[derive(Clone, Copy)]
 pub struct Entries {
-    pub refusal: u8,
     pub exponent: u8,
     pub entries: [i64; 32],
-}
-
-// A refusal, with nothing beside it.
-fn refused(refusal: u8) -> Entries
-    ensures { result.refusal ≡ refusal }
-{
-    Entries {
-        refusal,
-        exponent: 0,
-        entries: [0; 32],
-    }
 }
 
 // The 32 numbers.
@@ -41,13 +30,7 @@ fn decode(bytes: &[u8]) -> [i64; 32]
     requires { length bytes.now ≡ unitary_length }
     ensures { result ≡ unitary_entries bytes.now }
 {
-    let mut n = [0i64; 32];
-    let mut i = 0usize;
-    while i < 32 {
-        n[i] = file::short_entry(bytes, i);
-        i += 1;
-    }
-    n
+    std::array::from_fn(|i| file::short_entry(bytes, i))
 }
 
 // Entry (i, j).
@@ -79,14 +62,7 @@ fn is_small(k: u8, n: &[i64; 32]) -> bool
     ensures { result ≡ is_small k (matrix_of n.now) }
 {
     let limit = orthogonality::power_of_two(k);
-    let mut p = 0usize;
-    while p < 16 {
-        if limit < square_size(n, p / 4, p % 4) {
-            return false;
-        }
-        p += 1;
-    }
-    true
+    (0..16).all(|p| square_size(n, p / 4, p % 4) <= limit)
 }
 
 // The conjugate of entry (i, j).
@@ -105,12 +81,10 @@ fn row_product(n: &[i64; 32], i: usize, j: usize) -> Gaussian
     ensures { result ≡ product 4 (matrix_of n.now) (adjoint (matrix_of n.now)) i j }
 {
     let mut sum = Gaussian { re: 0, im: 0 };
-    let mut c = 0usize;
-    while c < 4 {
+    for c in 0..4 {
         let x = entry_of(n, i, c);
         let y = conjugate_of(n, j, c);
         sum = gaussian::plus(sum, gaussian::times(x, y));
-        c += 1;
     }
     sum
 }
@@ -138,38 +112,27 @@ fn is_unitary(k: u8, n: &[i64; 32]) -> bool
     ensures { result ≡ is_unitary k (matrix_of n.now) }
 {
     let norm = orthogonality::power_of_two(k);
-    let mut p = 0usize;
-    while p < 16 {
-        if !rows_unitary(n, p / 4, p % 4, norm) {
-            return false;
-        }
-        p += 1;
-    }
-    true
+    (0..16).all(|p| rows_unitary(n, p / 4, p % 4, norm))
 }
 
-// The refusal of a unitary's bytes, or its exponent and entries.
+// The exponent and the entries of a unitary's bytes, or their refusal.
 // Wrong, and refused: 19 before 18; 18 for whatever is not unitary; an exponent of 30 taken in.
-pub fn read_unitary(bytes: &[u8]) -> Entries
-    ensures { ReadAs bytes.now result }
+pub fn read_unitary(bytes: &[u8]) -> Result<Entries, Refusal>
+    ensures { ReadAs bytes.now (numbered result) }
 {
     if bytes.len() != UNITARY_LENGTH {
-        return refused(17);
+        return Err(Refusal::UnitaryLength);
     }
-    let k = bytes[0];
-    if LARGEST_UNITARY < k {
-        return refused(17);
+    let exponent = bytes[0];
+    if LARGEST_UNITARY < exponent {
+        return Err(Refusal::UnitaryLength);
     }
-    let n = decode(bytes);
-    if !is_small(k, &n) {
-        return refused(18);
+    let entries = decode(bytes);
+    if !is_small(exponent, &entries) {
+        return Err(Refusal::UnitaryEntry);
     }
-    if !is_unitary(k, &n) {
-        return refused(19);
+    if !is_unitary(exponent, &entries) {
+        return Err(Refusal::NotUnitary);
     }
-    Entries {
-        refusal: 0,
-        exponent: k,
-        entries: n,
-    }
+    Ok(Entries { exponent, entries })
 }

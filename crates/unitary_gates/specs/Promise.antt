@@ -1,5 +1,6 @@
 -- What the call from a unitary to a gate list promises (document 02, P5).
-use Rattle.std.specs.Prelude.{List, map, ◌≢◌, ◌⊎◌, ◌≡◌, ℕ, ◌+◌, ◌*◌, ◌<◌, ◌≤◌, length}
+use Rattle.std.specs.Prelude.{List, map, ◌≢◌, ◌⊎◌, ◌≡◌, ℕ, ◌+◌, ◌*◌, ◌<◌, ◌≤◌, length, Result, Ok, Err}
+use Rattle.refusal.specs.Refusal.{refusal_of}
 use Rattle.matrix.specs.Matrix.{listed}
 use Rattle.reduction.specs.Reduction as reduction
 use Rattle.file.specs.File.{file_exponent, written}
@@ -12,7 +13,6 @@ use Rattle.unitary.specs.Unitary.{Quotient, Gives}
 use Rattle.unitary.specs.Form.{form_of}
 use Rattle.unitary_file.specs.Unitary.{largest_unitary, unitary_length, unitary_of, unitary_refusal}
 use Rattle.unitary_gates.specs.declared.Synthesis.{Synthesis}
-use Rattle.unitary_gates.specs.declared.Synthesis.TheVariants.{Letters, Refused}
 
 -- ---- the list
 
@@ -41,10 +41,6 @@ pub record UnitaryList (U : Quotient) (w : List Gate) (p : ℕ) : Type 0 where
 
 -- ---- refused for its entries
 
-abbrev pub synthesis_refusal : Synthesis → ℕ
-synthesis_refusal (Letters t n l p) = 0
-synthesis_refusal (Refused n) = n
-
 -- 18 or 19
 abbrev pub ForEntries : ℕ → Type 0
 ForEntries n = (n ≡ 18) ⊎ (n ≡ 19)
@@ -62,16 +58,16 @@ pub record ExactlyRefused (b : List ℕ) (n : ℕ) : Type 0 where
 -- ---- the call
 
 -- a list w for the unitary was written; p is its power of ω
-pub record Handed (b old new : List ℕ) (a : Synthesis) (w : List Gate) (p : ℕ) : Type 0 where
+pub record Handed (b old new : List ℕ) (a : Result Synthesis ℕ) (w : List Gate) (p : ℕ) : Type 0 where
   -- the letters at the front of the buffer, and the bytes past them as they were
   pub buffer : new ≡ written old (map letter w)
   -- "The result is a gate list and a power of ω", with the count, the number of letters and L as for an operator
-  pub answer : a ≡ Letters (form_count (unitary_of b)) (length w) (form_loose (unitary_of b)) p
+  pub answer : a ≡ Ok (record { count = form_count (unitary_of b); letters = length w; loose = form_loose (unitary_of b); power = p })
   pub list : UnitaryList (unitary_of b) w p
 
-pub record UnitaryPromise (b old new : List ℕ) (a : Synthesis) : Type 0 where
-  pub refused : unitary_refusal b ≢ 0 → (a ≡ Refused (unitary_refusal b)) × (new ≡ old)
+pub record UnitaryPromise (b old new : List ℕ) (a : Result Synthesis ℕ) : Type 0 where
+  pub refused : unitary_refusal b ≢ 0 → (a ≡ Err (unitary_refusal b)) × (new ≡ old)
   -- "then 6": shorter than 256 × (t + 1)
-  pub no_room : unitary_refusal b ≡ 0 → length old < 256 * (form_count (unitary_of b) + 1) → (a ≡ Refused 6) × (new ≡ old)
+  pub no_room : unitary_refusal b ≡ 0 → length old < 256 * (form_count (unitary_of b) + 1) → (a ≡ Err 6) × (new ≡ old)
   pub handed : unitary_refusal b ≡ 0 → 256 * (form_count (unitary_of b) + 1) ≤ length old → (w : List Gate) × (p : ℕ) × Handed b old new a w p
-  pub exactly : ExactlyRefused b (synthesis_refusal a)
+  pub exactly : ExactlyRefused b (refusal_of a)

@@ -31,14 +31,12 @@ pub fn write_code(code: u64, out: &mut [u8], at: usize) -> usize
     ensures { (w : List Gate) → code ≡ encoded w → length w ≤ 16 → Written w at out.old out.new result }
 {
     let mut rest = code;
-    let mut i = 0usize;
-    while i < LONGEST {
+    for i in 0..LONGEST {
         if rest == 0 {
             return at + i;
         }
         out[at + i] = letter_at(rest % 8);
-        rest = rest / 8;
-        i += 1;
+        rest /= 8;
     }
-    at + i
+    at + LONGEST
 }

@@ -66,8 +66,7 @@ fn write_parts(columns: [u8; 6], out: &mut [u8], at: usize) -> usize
 }
 
 // Where a word that is written ends, and its sign.
-#[derive(Drop)]
-#[derive(Clone, Copy)]
+#[derive(Clone, Copy, Debug, PartialEq, Eq)]
 pub struct Word {
     pub next: usize,
     pub sign: u8,
@@ -83,8 +82,8 @@ pub fn write_clifford(columns: [u8; 6], out: &mut [u8], at: usize) -> Word
     let even = decomposition::is_even(local[0], local[1], local[2]);
     let parts = write_rotations(even, local, out, at);
     let next = write_parts(columns, out, parts);
-    if even {
-        return Word { next, sign: 0 };
+    Word {
+        next,
+        sign: !even as u8,
     }
-    Word { next, sign: 1 }
 }

@@ -9,7 +9,6 @@ ghost use Rattle.qasm.specs.Text.{text_of};
 ghost use Rattle.qasm.specs.Reading.{read_letters};
 ghost use Rattle.qasm.specs.Output.{output_of};
 
-use file::Wrote;
 use std::io::Result;
 
 // The bytes for a gate list, at the front of `out`.
@@ -17,10 +16,9 @@ fn answer(input: &[u8], out: &mut [u8; qasm::LONGEST_TEXT]) -> usize
     ensures { Appended (output_of text_of (read_letters (without_line_feed input.now))) 0 out.old out.new result × IsPrefixLen result out.new }
 {
     let letters = text_read::without_line_feed(input);
-    let answer = qasm::gates_to_qasm(letters, out);
-    match answer {
-        Wrote::Bytes(bytes) => bytes,
-        Wrote::Refused(refusal) => line::write_refused(refusal, out, 0),
+    match qasm::gates_to_qasm(letters, out) {
+        Ok(bytes) => bytes,
+        Err(refusal) => line::write_refused(refusal.number(), out, 0),
     }
 }
 

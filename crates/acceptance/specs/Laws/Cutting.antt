@@ -1,6 +1,5 @@
 -- The sign of what remains tells whether the operator is proper: "A cut keeps its sign, so the remaining Clifford shows it."
-use Rattle.std.specs.Prelude.{◌≡◌, refl, List, ℕ, ◌≤◌, ℤ}
-use Rattle.std.proofs.Common.{arith}
+use Rattle.std.specs.Prelude.{◌≡◌, refl, List, ℕ, ◌≤◌, ℤ, Err}
 use Rattle.matrix.specs.Matrix.{entry}
 use Rattle.matrix.specs.Operator.{operator, SameOperator, Orthogonal}
 use Rattle.matrix.specs.Laws.Test.{T_true, true_T, same_test_lem}
@@ -10,7 +9,6 @@ use Rattle.clifford.specs.Laws.Columns.{Permutation, matrix_permutation, matrix_
 use Rattle.sign.specs.Laws.Sign.{even_proper, proper_even}
 use Rattle.reduction.specs.Reduction.{remaining}
 use Rattle.reduction.specs.Laws.NormalForm.{cutting}
-use Rattle.acceptance.specs.declared.Cut.{Cut}
 use Rattle.acceptance.specs.Acceptance.{is_proper}
 use Rattle.acceptance.specs.Cutting.{CutAs}
 
@@ -29,11 +27,5 @@ module _ (k : ℕ) (m : List ℤ) (o : Orthogonal (operator k (entry m))) where
       perm = matrix_permutation (entry (remaining k m)) (cutting k m o).orthogonal
 
 -- a refusal leaves the rest open
-pub refused_as : {n k : ℕ} {m : List ℤ} (r : Cut) → 1 ≤ n → r.refusal ≡ n → CutAs n k m r
-refused_as r h e = record {
-  refusal = e;
-  count = λ z. absurd (omega arith);
-  loose = λ z. absurd (omega arith);
-  numbers = λ z. absurd (omega arith);
-  columns = λ z. absurd (omega arith);
-}
+pub refused_as : {n : ℕ} (k : ℕ) (m : List ℤ) → 1 ≤ n → CutAs n k m (Err n)
+refused_as k m h = (refl, h)

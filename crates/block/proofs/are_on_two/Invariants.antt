@@ -1,6 +1,6 @@
 -- The invariant: the blocks before n pass, so that the rest decides, and the first two bytes of each block are there.
 use mathlib.Core.Path.{◌≡◌}
-use Prim.Native.Nat.{ℕ, ◌+◌, ◌*◌, ◌-◌, ◌≤◌, ◌<◌}
+use Prim.Native.Nat.{ℕ, ◌+◌, ◌*◌, ◌-◌, ◌<◌}
 use mathlib.Core.Bool.{Bool}
 use mathlib.Core.List.{List}
 use lib.ListN.{length}
@@ -13,8 +13,5 @@ on_two_at w b n = is_on_two (block_at w b n)
 
 abbrev pub invariant-loop-n : goal.invariant-loop-n
 invariant-loop-n l =
-    (l.n ≤ l.count) × ((i : ℕ) → i < l.count → (l.w * i + 1 < length l.bytes) × (i + 1 < length l.bytes))
+    ((i : ℕ) → i < l.count → (l.w * i + 1 < length l.bytes) × (i + 1 < length l.bytes))
     × (are_on_two l.w l.bytes ≡ every_from (on_two_at l.w l.bytes) l.n (l.count - l.n))
-
-abbrev pub decreases-loop-n : goal.decreases-loop-n
-decreases-loop-n l = l.count - l.n

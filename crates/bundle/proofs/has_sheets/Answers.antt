@@ -43,18 +43,18 @@ module _ (b : List ℕ) where
 pub loop-n-init : goal.loop-n-init
 loop-n-init c =
     let a = c.args in
-    (search rules, search rules, start_first _, let e : a.count ≡ a.count - 0 = omega arith in ap (every_from (is_followed a.bytes.now) 0) e)
+    (search rules, start_first _, let e : a.count ≡ a.count - 0 = omega arith in ap (every_from (is_followed a.bytes.now) 0) e)
 
 pub returns-then-first-lt-LEAST_FIRST : goal.returns-then-first-lt-LEAST_FIRST
 returns-then-first-lt-LEAST_FIRST c =
     let e = c.byte_at-first.ensures in
-    stops c.args.bytes.now _ c.requires.0 c.loop-n.n c.loop-n.invariant.3 (omega arith) (low _ _ c.loop-n.at c.loop-n.invariant.2 (omega arith))
+    stops c.args.bytes.now _ c.requires.0 c.loop-n.n c.loop-n.invariant.2 (omega arith) (low _ _ c.loop-n.at c.loop-n.invariant.1 (omega arith))
 
 pub returns-then-says-at : goal.returns-then-says-at
 returns-then-says-at c =
     let e = c.byte_at-first.ensures in
-    stops c.args.bytes.now _ c.requires.0 c.loop-n.n c.loop-n.invariant.3 (omega arith)
-    (off _ _ c.loop-n.at c.loop-n.invariant.2 (omega arith) (λ z. c.if-says-at.true (c.offset-says.ensures.0 ∙ z)))
+    stops c.args.bytes.now _ c.requires.0 c.loop-n.n c.loop-n.invariant.2 (omega arith)
+    (off _ _ c.loop-n.at c.loop-n.invariant.1 (omega arith) (λ z. c.if-says-at.true (c.offset-says.ensures.0 ∙ z)))
 
 pub loop-n-preserved : goal.loop-n-preserved
 loop-n-preserved c =
@@ -62,12 +62,11 @@ loop-n-preserved c =
     let e = c.byte_at-first.ensures in
     let o = c.offset-says.ensures.0 in (
       search rules,
-      search rules,
-      ap (λ x. c.loop-n.at + x) (c.sheet_length-at.ensures.0 ∙ ap (λ x. x - 56) e) ∙ start_next b c.loop-n.n c.loop-n.at c.loop-n.invariant.2,
-      c.loop-n.invariant.3 ∙ every_next _ _ c.loop-n.n (omega arith) (follows b c.loop-n.n c.loop-n.at c.loop-n.invariant.2 (omega arith) (sym o ∙ c.if-says-at.false)),
+      ap (λ x. c.loop-n.at + x) (c.sheet_length-at.ensures.0 ∙ ap (λ x. x - 56) e) ∙ start_next b c.loop-n.n c.loop-n.at c.loop-n.invariant.1,
+      c.loop-n.invariant.2 ∙ every_next _ _ c.loop-n.n (omega arith) (follows b c.loop-n.n c.loop-n.at c.loop-n.invariant.1 (omega arith) (sym o ∙ c.if-says-at.false)),
     )
 
 pub returns : goal.returns
 returns c =
     ap (λ k. eqb c.loop-n.at (length c.args.bytes.now - (2 * k + 2))) c.requires.0
-    ∙ ends _ _ c.requires.0 c.loop-n.n c.loop-n.invariant.3 (omega arith) c.loop-n.at c.loop-n.invariant.2
+    ∙ ends _ _ c.requires.0 c.loop-n.n c.loop-n.invariant.2 (omega arith) c.loop-n.at c.loop-n.invariant.1

@@ -6,7 +6,4 @@ use Rattle.bundle.specs.Bundle.{start_of, is_followed}
 use Rattle.bundle.proofs.has_sheets.Given as goal
 
 abbrev pub invariant-loop-n : goal.invariant-loop-n
-invariant-loop-n l = (l.n ≤ l.count) × (l.at ≤ 199 * l.n) × (l.at ≡ start_of l.bytes l.n) × (every l.count (is_followed l.bytes) ≡ every_from (is_followed l.bytes) l.n (l.count - l.n))
-
-abbrev pub decreases-loop-n : goal.decreases-loop-n
-decreases-loop-n l = l.count - l.n
+invariant-loop-n l = (l.at ≤ 199 * l.n) × (l.at ≡ start_of l.bytes l.n) × (every l.count (is_followed l.bytes) ≡ every_from (is_followed l.bytes) l.n (l.count - l.n))

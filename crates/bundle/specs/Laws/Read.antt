@@ -1,5 +1,5 @@
 -- What a bundle that earns neither 20 nor 21 has: its parts are not empty, lie before the trailer, and are the bytes before it, end to end.
-use Rattle.std.specs.Prelude.{◌≡◌, Bool, cond, ◌&&◌, ◌≢◌, leb, ltb, get_or, drop}
+use Rattle.std.specs.Prelude.{◌≡◌, Bool, cond, ◌&&◌, ◌≢◌, leb, ltb, get_or, drop, Ok, Err}
 use Rattle.std.proofs.Math.Path.{refl, sym, ap}
 use Rattle.std.proofs.Common.{ap₂, ◌∙◌, zero-add, add-one, length-drop, take-add, length-take-le, get_or-take, get_or-drop}
 use Rattle.std.proofs.Math.Bool.{true, false}
@@ -14,7 +14,7 @@ use Rattle.matrix.specs.Laws.Test.{and_left, and_right}
 use Rattle.matrix.specs.Laws.Range.{every_sound, every_complete}
 use Rattle.sheet_bytes.specs.Bytes.{shortest}
 use Rattle.sheet_bytes.specs.Sheet.{Counted}
-use Rattle.bundle.specs.declared.Part.TheVariants.{At, Refused}
+use Rattle.bundle.specs.declared.Part.{Part}
 use Rattle.bundle.specs.Bundle.{most_sheets, sheet_count, trailer_length, trailer_start, offset, length_at, start_of, is_followed, is_ended, has_trailer, has_sheets, bundle_refusal, part_of, sheet_in, place_in}
 
 -- ---- what the tests say
@@ -138,7 +138,7 @@ module _ (b : List ℕ) (n : ℕ) where
     unfolding sheet_in
     part_is = rw (eq-eqb (bundle_refusal b n) 0 z)
 
-    pub part_found : part_of b n ≡ At (offset b n) (length_at b (offset b n))
+    pub part_found : part_of b n ≡ Ok (record { start = offset b n; length = length_at b (offset b n) })
     unfolding part_of
     part_found = rw (eq-eqb (bundle_refusal b n) 0 z)
 
@@ -177,23 +177,23 @@ module _ (b : List ℕ) (n : ℕ) where
     unfolding place_in
     place_none = rw (ne_eqb (bundle_refusal b n) 0 z)
 
-    pub part_missing : part_of b n ≡ Refused (bundle_refusal b n)
+    pub part_missing : part_of b n ≡ Err (bundle_refusal b n)
     unfolding part_of
     part_missing = rw (ne_eqb (bundle_refusal b n) 0 z)
 
   -- so a part that is answered by its place lies in the bytes, and is what is handed back
-  pub part_at : (start size : ℕ) → part_of b n ≡ At start size → (start + size ≤ length b) × (take size (drop start b) ≡ sheet_in b n) × (start ≡ place_in b n)
-  part_at start size e = elim (ℕ_discrete (bundle_refusal b n) 0) [
+  pub part_at : (p : Part) → part_of b n ≡ Ok p → (p.start + p.length ≤ length b) × (take p.length (drop p.start b) ≡ sheet_in b n) × (p.start ≡ place_in b n)
+  part_at w e = elim (ℕ_discrete (bundle_refusal b n) 0) [
     | yes z ↦
         let f = part_found z in
-        let p : start ≡ offset b n = cc in
-        let q : size ≡ length_at b (offset b n) = cc in
+        let p : w.start ≡ offset b n = cc in
+        let q : w.length ≡ length_at b (offset b n) = cc in
         let l = (found b n z).end in
         (omega arith, ap₂ (λ k i. take k (drop i b)) q p ∙ sym (part_is z), p ∙ sym (place_is z))
     | no z ↦ let f = part_missing z in let x : ◌≡◌ {A = ℕ} 0 1 = cc in absurd (omega arith)
   ]
 
-  pub part_none : (r : ℕ) → part_of b n ≡ Refused r → (sheet_in b n ≡ []) × (place_in b n ≡ 0)
+  pub part_none : (r : ℕ) → part_of b n ≡ Err r → (sheet_in b n ≡ []) × (place_in b n ≡ 0)
   part_none r e = elim (ℕ_discrete (bundle_refusal b n) 0) [
     | yes z ↦ let f = part_found z in let x : ◌≡◌ {A = ℕ} 0 1 = cc in absurd (omega arith)
     | no z ↦ (part_refused z, place_none z)

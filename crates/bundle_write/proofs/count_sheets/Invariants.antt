@@ -14,7 +14,4 @@ abbrev pub is_none : List ℕ → ℕ → Bool
 is_none s n = not (is_whole s (start_of s n))
 
 abbrev pub invariant-loop-count : goal.invariant-loop-count
-invariant-loop-count l = (l.count ≤ suc most_sheets) × (l.end ≡ start_of l.sheets l.count) × (l.end ≤ length l.sheets) × (stored_count l.sheets ≡ first_from (is_none l.sheets) l.count (suc most_sheets - l.count))
-
-abbrev pub decreases-loop-count : goal.decreases-loop-count
-decreases-loop-count l = suc most_sheets - l.count
+invariant-loop-count l = (l.end ≡ start_of l.sheets l.count) × (l.end ≤ length l.sheets) × (stored_count l.sheets ≡ first_from (is_none l.sheets) l.count (suc most_sheets - l.count))

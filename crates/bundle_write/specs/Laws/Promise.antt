@@ -1,11 +1,10 @@
 -- What is promised, by the outcome.
-use Rattle.std.specs.Prelude.{◌≡◌, ◌≢◌, List, ◌++◌, ℕ, ◌+◌, ◌≤◌, ◌<◌, length}
+use Rattle.std.specs.Prelude.{◌≡◌, ◌≢◌, List, ◌++◌, ℕ, ◌+◌, ◌≤◌, ◌<◌, length, Ok, Err}
 use Rattle.std.proofs.Common.{sym, ◌∙◌, arith}
 use Rattle.std.proofs.Math.Path.{ap}
 use Rattle.std.proofs.Math.Nat.{zero-add}
 use Rattle.std.proofs.Math.ListN.{drop}
 use borrow.Author.Tests.{lt-ltb, le-ltb, eq-eqb, ne_eqb}
-use Rattle.file.specs.declared.Wrote.TheVariants.{Bytes, Refused}
 use Rattle.file.specs.File.{written, Appended}
 use Rattle.bundle.specs.Bundle.{most_sheets, trailer_length, start_of}
 use Rattle.bundle.specs.Laws.Made.{made_length}
@@ -40,27 +39,27 @@ module _ (s : List ℕ) where
       omega arith
 
   module _ (old : List ℕ) where
-    pub promise_refused : (r : ℕ) → sheets_refusal s ≡ r → r ≢ 0 → BundlePromise s old old (Refused r)
+    pub promise_refused : (r : ℕ) → sheets_refusal s ≡ r → r ≢ 0 → BundlePromise s old old (Err r)
     unfolding bundle_answer bundle_buffer
     promise_refused r e d =
         let n = ne_eqb (sheets_refusal s) 0 (λ z. d (sym e ∙ z)) in
-        record { answer = rw n (ap Refused (sym e)); buffer = rw n; reads = stored_reads s; parts = stored_parts s }
+        record { answer = rw n (ap Err (sym e)); buffer = rw n; reads = stored_reads s; parts = stored_parts s }
 
     module _ (z : sheets_refusal s ≡ 0) where
-      pub promise_short : length old < length (sheets_bundle s) → BundlePromise s old old (Refused 6)
+      pub promise_short : length old < length (sheets_bundle s) → BundlePromise s old old (Err 6)
       unfolding bundle_answer bundle_buffer
       promise_short h =
           let n = eq-eqb (sheets_refusal s) 0 z in
           let l = lt-ltb (length old) (length (sheets_bundle s)) h in
           record { answer = rw (n, l); buffer = rw (n, l); reads = stored_reads s; parts = stored_parts s }
 
-      pub promise_written : (new : List ℕ) (r : ℕ) → length (sheets_bundle s) ≤ length old → Appended (sheets_bundle s) 0 old new r → BundlePromise s old new (Bytes r)
+      pub promise_written : (new : List ℕ) (r : ℕ) → length (sheets_bundle s) ≤ length old → Appended (sheets_bundle s) 0 old new r → BundlePromise s old new (Ok r)
       unfolding bundle_answer bundle_buffer written
       promise_written new r h a =
           let n = eq-eqb (sheets_refusal s) 0 z in
           let l = le-ltb (length old) (length (sheets_bundle s)) h in
           record {
-            answer = rw (n, l) (ap Bytes (a.next ∙ zero-add (length (sheets_bundle s))));
+            answer = rw (n, l) (ap Ok (a.next ∙ zero-add (length (sheets_bundle s))));
             buffer = rw (n, l) (a.buffer ∙ ap (λ k. sheets_bundle s ++ drop k old) (zero-add (length (sheets_bundle s))));
             reads = stored_reads s;
             parts = stored_parts s;

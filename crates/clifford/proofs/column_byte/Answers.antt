@@ -15,7 +15,6 @@ use Rattle.matrix.specs.Laws.Integer.{equals_yes, equals_no}
 use Rattle.matrix.specs.Laws.Range.{first_here, first_next}
 use Rattle.matrix.specs.Laws.Machine.{same_bits}
 use Rattle.clifford.specs.Columns.{column_row, column_byte}
-use borrow.Author.Rules.{rules}
 use Rattle.clifford.proofs.column_byte.Invariants.{nonzero}
 use Rattle.clifford.proofs.column_byte.Goals as goal
 
@@ -29,14 +28,14 @@ returns-then-x-eq1 c =
     let m = c.args.m in
     let q = c.args.c in
     let x : entry m c.loop-r.r q ≡ pos 1 = same_bits c.x-1.given (lit< tt) c.if-x-eq1.true in
-    let e = c.loop-r.invariant.1 ∙ first_here (nonzero m q) 6 c.loop-r.r (omega arith) (ap (λ z. not (equals z (pos 0))) x) in
+    let e = c.loop-r.invariant ∙ first_here (nonzero m q) 6 c.loop-r.r (omega arith) (ap (λ z. not (equals z (pos 0))) x) in
     sym (byte m q c.loop-r.r e ∙ ap (λ t. c.loop-r.r + cond t 1 129) (equals_yes x))
 
 pub returns-then-x-ne0 : goal.returns-then-x-ne0
 returns-then-x-ne0 c =
     let m = c.args.m in
     let q = c.args.c in
-    let e = c.loop-r.invariant.1 ∙ first_here (nonzero m q) 6 c.loop-r.r (omega arith) (ap not (equals_no {a = entry m c.loop-r.r q} {b = pos 0} (λ z. c.if-x-ne0.true (ap (of_z w64) z)))) in
+    let e = c.loop-r.invariant ∙ first_here (nonzero m q) 6 c.loop-r.r (omega arith) (ap not (equals_no {a = entry m c.loop-r.r q} {b = pos 0} (λ z. c.if-x-ne0.true (ap (of_z w64) z)))) in
     sym (byte m q c.loop-r.r e ∙ ap (λ t. c.loop-r.r + cond t 1 129) (equals_no {a = entry m c.loop-r.r q} {b = pos 1} (λ z. c.if-x-eq1.false (ap (of_z w64) z))))
 
 pub loop-r-preserved : goal.loop-r-preserved
@@ -44,7 +43,7 @@ loop-r-preserved c =
     let m = c.args.m in
     let q = c.args.c in
     let x : entry m c.loop-r.r q ≡ pos 0 = same_bits c.x-1.given (lit< tt) c.if-x-ne0.false in
-    (search rules, c.loop-r.invariant.1 ∙ first_next (nonzero m q) 6 c.loop-r.r (omega arith) (ap (λ z. not (equals z (pos 0))) x))
+    c.loop-r.invariant ∙ first_next (nonzero m q) 6 c.loop-r.r (omega arith) (ap (λ z. not (equals z (pos 0))) x)
 
 pub returns : goal.returns
 unfolding first_from
@@ -52,5 +51,5 @@ returns c =
     let m = c.args.m in
     let q = c.args.c in
     let z : 6 - c.loop-r.r ≡ 0 = omega arith in
-    let e : column_row (entry m) q ≡ 6 = c.loop-r.invariant.1 ∙ rw z (omega arith) in
+    let e : column_row (entry m) q ≡ 6 = c.loop-r.invariant ∙ rw z (omega arith) in
     sym (byte m q 6 e ∙ ap (λ x. 6 + cond (equals x (pos 1)) 1 129) (get_or-eq_default m (pos 0) (omega arith)))

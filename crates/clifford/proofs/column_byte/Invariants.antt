@@ -1,6 +1,6 @@
 -- The invariant: the entries of the column before row r are 0, so those from r on decide.
 use mathlib.Core.Path.{◌≡◌}
-use Prim.Native.Nat.{ℕ, ◌-◌, ◌≤◌}
+use Prim.Native.Nat.{ℕ, ◌-◌}
 use mathlib.Core.Bool.{Bool, not}
 use mathlib.Core.List.{List}
 use lib.IntN.{ℤ, pos}
@@ -14,7 +14,4 @@ abbrev pub nonzero : List ℤ → ℕ → ℕ → Bool
 nonzero m c r = not (equals (entry m r c) (pos 0))
 
 abbrev pub invariant-loop-r : goal.invariant-loop-r
-invariant-loop-r l = (l.r ≤ 6) × (column_row (entry l.m) l.c ≡ first_from (nonzero l.m l.c) l.r (6 - l.r))
-
-abbrev pub decreases-loop-r : goal.decreases-loop-r
-decreases-loop-r l = 6 - l.r
+invariant-loop-r l = column_row (entry l.m) l.c ≡ first_from (nonzero l.m l.c) l.r (6 - l.r)

@@ -1,9 +1,9 @@
-use mathlib.Core.Path.{◌≡◌, refl}
-use native.Mathlib.Omega.{arith}
-use Rattle.matrix.specs.Laws.Range.{filled_all}
+use borrow.Author.Rules.{rules}
+use borrow.Author.Tests.{tests}
+use Rattle.matrix.specs.Matrix.{entry}
+use Rattle.matrix.proofs.Chains.{made}
+use Rattle.clifford.specs.Columns.{column_byte}
 use Rattle.clifford.proofs.columns_of.Goals as goal
 
 pub returns : goal.returns
-returns c =
-    let e : c.loop-c.c ≡ 6 = omega arith in
-    filled_all _ _ _ 6 _ (rw e at c.loop-c.invariant.1) refl
+returns c = made _ (column_byte (entry c.args.m)) 0 c.from_fn.result (λ x y q k. search (rules, tests)) 6 c.from_fn.ensures.items

@@ -1,5 +1,6 @@
 -- The text is that of the answer's case.
-use mathlib.Core.Path.{sym}
+use Rattle.std.specs.Prelude.{Err}
+use mathlib.Core.Path.{refl, sym, ap}
 use mathlib.Core.List.{[], ◌∷◌, ◌++◌}
 use Prim.Native.Nat.{◌+◌}
 use native.Mathlib.Omega.{arith}
@@ -13,19 +14,19 @@ use Rattle.cut.specs.Laws.Output.{counted, refused}
 use Rattle.cut.proofs.answer.Goals as goal
 
 pub write_count-second-requires : goal.write_count-second-requires
-write_count-second-requires c = let k = counted _ _ _ _ (omega arith) c.operator_to_sheet-answer.ensures _ _ c.in-Taken.is in let r = k.room in omega arith
+write_count-second-requires c = let k = counted _ _ _ _ (omega arith) c.in-Ok.ensures _ refl in let r = k.room in omega arith
 
 pub slice_bounds-sheet-end : goal.slice_bounds-sheet-end
-slice_bounds-sheet-end c = (counted _ _ _ _ (omega arith) c.operator_to_sheet-answer.ensures _ _ c.in-Taken.is).long
+slice_bounds-sheet-end c = (counted _ _ _ _ (omega arith) c.in-Ok.ensures _ refl).long
 
 pub slice_bounds-write_sheet-end : goal.slice_bounds-write_sheet-end
 slice_bounds-write_sheet-end c =
-    let k = counted _ _ _ _ (omega arith) c.operator_to_sheet-answer.ensures _ _ c.in-Taken.is in
+    let k = counted _ _ _ _ (omega arith) c.in-Ok.ensures _ refl in
     sym (length-take-le _ _ k.long)
 
 pub write_sheet-third-requires : goal.write_sheet-third-requires
 write_sheet-third-requires c =
-    let k = counted _ _ _ _ (omega arith) c.operator_to_sheet-answer.ensures _ _ c.in-Taken.is in
+    let k = counted _ _ _ _ (omega arith) c.in-Ok.ensures _ refl in
     let r = k.room in
     let a = c.write_count-second.ensures in
     let e = a.next in
@@ -34,10 +35,10 @@ write_sheet-third-requires c =
 
 pub write_loose-requires : goal.write_loose-requires
 write_loose-requires c =
-    let k = counted _ _ _ _ (omega arith) c.operator_to_sheet-answer.ensures _ _ c.in-Taken.is in
+    let k = counted _ _ _ _ (omega arith) c.in-Ok.ensures _ refl in
     let r = k.room in
-    let t = c.in-Taken.count in
-    let sheet = take (t + shortest) c.operator_to_sheet-answer.new.out in
+    let t = c.in-Ok.cuts.count in
+    let sheet = take (t + shortest) c.operator_to_sheet.new.out in
     let m = length-append (count_line t) (sheet_line sheet) in
     let a = appended_append c.write_count-second.ensures (omega arith) c.write_sheet-third.ensures in
     let e = a.next in
@@ -45,23 +46,23 @@ write_loose-requires c =
     omega arith
 
 pub write_refused-requires : goal.write_refused-requires
-write_refused-requires c = let l = line_length refused_word (c.in-Refused.refusal ∷ []) in omega arith
+write_refused-requires c = let l = line_length refused_word (c.number.result ∷ []) in omega arith
 
-pub returns-in-Taken : goal.returns-in-Taken
-returns-in-Taken c =
-    let k = counted _ _ _ _ (omega arith) c.operator_to_sheet-answer.ensures _ _ c.in-Taken.is in
+pub returns-in-Ok : goal.returns-in-Ok
+returns-in-Ok c =
+    let k = counted _ _ _ _ (omega arith) c.in-Ok.ensures _ refl in
     let r = k.room in
-    let t = c.in-Taken.count in
-    let sheet = take (t + shortest) c.operator_to_sheet-answer.new.out in
+    let t = c.in-Ok.cuts.count in
+    let sheet = take (t + shortest) c.operator_to_sheet.new.out in
     let m = length-append (count_line t) (sheet_line sheet) in
-    let n = length-append (count_line t ++ sheet_line sheet) (loose_line c.in-Taken.loose) in
+    let n = length-append (count_line t ++ sheet_line sheet) (loose_line c.in-Ok.cuts.loose) in
     let two = appended_append c.write_count-second.ensures (omega arith) c.write_sheet-third.ensures in
     let a = appended_append two (omega arith) c.write_loose.ensures in
     (appended_as (sym k.text) a, within a (omega arith))
 
-pub returns-in-Refused : goal.returns-in-Refused
-returns-in-Refused c =
-    let e = refused _ _ _ _ (omega arith) c.operator_to_sheet-answer.ensures _ c.in-Refused.is in
-    let l = line_length refused_word (c.in-Refused.refusal ∷ []) in
+pub returns-in-Err : goal.returns-in-Err
+returns-in-Err c =
+    let e = refused _ _ _ _ (omega arith) c.in-Err.ensures _ (ap Err (sym c.number.ensures.0)) in
+    let l = line_length refused_word (c.number.result ∷ []) in
     let a = c.write_refused.ensures in
     (appended_as (sym e) a, within a (omega arith))

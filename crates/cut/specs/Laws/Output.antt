@@ -1,7 +1,7 @@
 -- The text by what the call for a sheet answers, where the buffer has room for every sheet.
 use Rattle.std.proofs.Math.Path.{◌≡◌, sym, ap}
 use Rattle.std.proofs.Common.{◌∙◌, arith}
-use Rattle.std.specs.Prelude.{List, [], ◌∷◌, ◌++◌, ◌≢◌, ℕ, ◌+◌, ◌≤◌, drop}
+use Rattle.std.specs.Prelude.{List, [], ◌∷◌, ◌++◌, ◌≢◌, ℕ, ◌+◌, ◌≤◌, drop, Result, Ok, Err}
 use Rattle.std.proofs.Math.Decide.{ℕ_discrete}
 use Rattle.std.proofs.Math.ListN.{length, take, length-append}
 use Rattle.std.proofs.Math.Seq.{take_at, length-take-le}
@@ -11,7 +11,7 @@ use Rattle.sheet_bytes.specs.Bytes.{shortest, longest}
 use Rattle.acceptance.specs.Acceptance.{file_refusal}
 use Rattle.acceptance.specs.Cutting.{file_count, file_loose}
 use Rattle.operator.specs.declared.Cuts.{Cuts}
-use Rattle.operator.specs.declared.Cuts.TheVariants.{Taken, Refused}
+use Rattle.refusal.specs.Laws.Refusal.{ok_err, same_err, same_ok}
 use Rattle.operator.specs.Promise.{file_sheet, sheet_answer, sheet_buffer, SheetPromise}
 use Rattle.operator.specs.Laws.Promise.{count_small, sheet_length}
 use Rattle.text.specs.Text.{count_word, sheet_word, loose_word, count_line, sheet_line, loose_line, refused_line}
@@ -26,12 +26,12 @@ pub record Counted (b new : List ℕ) (t l : ℕ) : Type 0 where
   -- room for the three lines
   pub room : length (count_line t) + length (sheet_line (take (t + shortest) new)) + length (loose_line l) ≤ 512
 
-module _ (b old new : List ℕ) (a : Cuts) (room : longest ≤ length old) (p : SheetPromise b old new a) where
+module _ (b old new : List ℕ) (a : Result Cuts ℕ) (room : longest ≤ length old) (p : SheetPromise b old new a) where
   module _ (z : file_refusal b ≡ 0) where
     fits : length (file_sheet b) ≤ length old
     fits = let s = sheet_length b z in let k = count_small b z in omega arith
 
-    answer_is : a ≡ Taken (file_count b) (file_loose b)
+    answer_is : a ≡ Ok (record { count = file_count b; loose = file_loose b })
     unfolding sheet_answer
     answer_is = p.answer ∙ rw (eq-eqb (file_refusal b) 0 z, le-ltb (length old) (length (file_sheet b)) fits)
 
@@ -58,20 +58,20 @@ module _ (b old new : List ℕ) (a : Cuts) (room : longest ≤ length old) (p : 
           text = rw (eq-eqb (file_refusal b) 0 z) (cc (e, f, g));
         }
 
-  refusal_is : file_refusal b ≢ 0 → a ≡ Refused (file_refusal b)
+  refusal_is : file_refusal b ≢ 0 → a ≡ Err (file_refusal b)
   unfolding sheet_answer
   refusal_is n = p.answer ∙ rw (ne_eqb (file_refusal b) 0 n)
 
-  pub counted : (t l : ℕ) → a ≡ Taken t l → Counted b new t l
-  counted t l e = elim (ℕ_discrete (file_refusal b) 0) [
-    | yes z ↦ let f = answer_is z in done z t l (cc) (cc)
-    | no n ↦ let f = refusal_is n in let x : ◌≡◌ {A = ℕ} 0 1 = cc in absurd (omega arith)
+  pub counted : (r : Cuts) → a ≡ Ok r → Counted b new r.count r.loose
+  counted r e = elim (ℕ_discrete (file_refusal b) 0) [
+    | yes z ↦ let f = same_ok (sym e ∙ answer_is z) in done z r.count r.loose (ap (λ c. c.count) f) (ap (λ c. c.loose) f)
+    | no n ↦ absurd (ok_err (sym e ∙ refusal_is n))
   ]
 
   -- after a refusal
-  pub refused : (n : ℕ) → a ≡ Refused n → cut_text b ≡ refused_line n
+  pub refused : (n : ℕ) → a ≡ Err n → cut_text b ≡ refused_line n
   unfolding cut_text
   refused n e = elim (ℕ_discrete (file_refusal b) 0) [
-    | yes z ↦ let f = answer_is z in let x : ◌≡◌ {A = ℕ} 0 1 = cc in absurd (omega arith)
-    | no m ↦ let f = refusal_is m in let x : file_refusal b ≡ n = cc in rw (ne_eqb (file_refusal b) 0 m) (ap refused_line x)
+    | yes z ↦ absurd (ok_err (sym (answer_is z) ∙ e))
+    | no m ↦ rw (ne_eqb (file_refusal b) 0 m) (ap refused_line (same_err (sym (refusal_is m) ∙ e)))
   ]

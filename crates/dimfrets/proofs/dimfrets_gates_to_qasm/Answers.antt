@@ -1,11 +1,9 @@
--- The word is that of the call's answer, which is never refusal 0 and has fewer than 2^24 bytes.
-use mathlib.Core.Logic.{◌≢◌}
+-- The word is that of the call's answer, which has fewer than 2^24 bytes.
 use mathlib.Core.Path.{sym, subst}
 use Prim.Native.Nat.{◌^◌, ◌<◌}
-use Rattle.file.specs.declared.Wrote.TheVariants.{Refused}
 use Rattle.answer_word.specs.Encoding.{bytes_of}
 use Rattle.dimfrets.specs.Laws.Answers.{text_fits}
 use Rattle.dimfrets.proofs.dimfrets_gates_to_qasm.Goals as goal
 
 pub encode_wrote-requires : goal.encode_wrote-requires
-encode_wrote-requires c = subst (λ a. (a ≢ Refused 0) × (bytes_of a < 2 ^ 24)) (sym c.gates_to_qasm-answer.ensures.answer) (text_fits _ _)
+encode_wrote-requires c = subst (λ a. bytes_of a < 2 ^ 24) (sym c.gates_to_qasm-answer.ensures.answer) (text_fits _ _).1

@@ -1,6 +1,6 @@
--- The word is that of the call's answer, which is never refusal 0 and has fewer than 2^16 letters.
+-- The word is that of the call's answer, which has fewer than 2^16 letters.
 use Rattle.dimfrets.specs.Laws.Answers.{gates_fit}
 use Rattle.dimfrets.proofs.dimfrets_operator_to_gates.Goals as goal
 
 pub encode_listed-requires : goal.encode_listed-requires
-encode_listed-requires c = gates_fit _ _ _ _ c.operator_to_gates-answer.ensures
+encode_listed-requires c = (gates_fit _ _ _ _ c.operator_to_gates-answer.ensures).1

@@ -5,7 +5,6 @@ use native.Mathlib.Nat.{pow-suc, div-one, div-div-eq-div-mul}
 use native.Mathlib.Numerals.{add-one}
 use native.Mathlib.Omega.{arith}
 use lib.ListN.{length, get_or, set}
-use borrow.Author.Rules.{rules}
 use Rattle.matrix.specs.Range.{tabulate}
 use Rattle.matrix.specs.Laws.Range.{length_tabulate}
 use Rattle.file.specs.File.{byte_of, Appended}
@@ -37,10 +36,10 @@ unfolding tabulate
 loop-n-init c =
     let a = c.args in
     let e : a.at ≡ a.at + 0 = omega arith in
-    (search rules, c.requires, sym (div-one a.u), subst (Appended [] a.at a.out.now a.out.now) e (appended_none a.at a.out.now))
+    (sym (div-one a.u), subst (Appended [] a.at a.out.now a.out.now) e (appended_none a.at a.out.now))
 
 pub loop-n-preserved : goal.loop-n-preserved
 loop-n-preserved c =
     let l = c.loop-n in
     let a = c.args in
-    (search rules, l.invariant.1, next a.u l.n l.rest l.invariant.2, rw l.invariant.2 (turn a.u a.at l.n a.out.now l.out l.invariant.3 (omega arith)))
+    (next a.u l.n l.rest l.invariant.0, rw l.invariant.0 (turn a.u a.at l.n a.out.now l.out l.invariant.1 (omega arith)))

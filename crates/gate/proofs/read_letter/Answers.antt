@@ -1,4 +1,5 @@
 -- Behind a stretch only C is a letter, and the test on the exponent is the definition's.
+use Rattle.std.specs.Prelude.{Some, Ok, Err}
 use mathlib.Core.Path.{◌≡◌, refl, sym, ap, ◌∙◌}
 use mathlib.Core.Bool.{Bool, true, false}
 use mathlib.Core.List.{List}
@@ -8,12 +9,12 @@ use lib.Dec.{ltb}
 use lib.IntN.{ℤ}
 use borrow.Author.Tests.{lt-ltb, le-ltb}
 use Rattle.matrix.specs.Matrix.{entry, listed, product}
-use Rattle.matrix.specs.Array.{Least, least_form}
+use Rattle.matrix.specs.declared.Least.{Least}
+use Rattle.matrix.specs.Array.{least_form}
 use Rattle.matrix.specs.Laws.Array.{orthogonal_bounded}
-use Rattle.file.specs.File.{largest_exponent, no_operator}
+use Rattle.file.specs.File.{largest_exponent}
 use Rattle.residue.specs.Generator.{generator}
 use Rattle.letter.specs.declared.Gate.TheVariants.{Cs}
-use Rattle.letter.specs.declared.Letter.TheVariants.{Is}
 use Rattle.letter.specs.Gate.{gate_of}
 use Rattle.letter.specs.Laws.Gate.{gate_of_letter}
 use Rattle.gate.specs.Product.{image}
@@ -23,7 +24,7 @@ use Rattle.gate.proofs.read_letter.Goals as goal
 
 -- a letter C behind (k, m), where f is the product
 module _ (k : ℕ) (m : List ℤ) (b : ℕ) (is : b ≡ 67) (f : Least) (e : f ≡ least_form (k + 1) (listed (product 6 (entry m) (generator 3)))) where
-  known : gate_of b ≡ Is Cs
+  known : gate_of b ≡ Some Cs
   known = ap gate_of is ∙ gate_of_letter Cs
 
   more : f ≡ multiplied k m Cs
@@ -33,15 +34,14 @@ module _ (k : ℕ) (m : List ℤ) (b : ℕ) (is : b ≡ 67) (f : Least) (e : f �
   test : (t : Bool) → ltb largest_exponent f.exponent ≡ t → ltb largest_exponent (multiplied k m Cs).exponent ≡ t
   test t h = ap (λ (x : Least). ltb largest_exponent x.exponent) (sym more) ∙ h
 
-  deep : largest_exponent < f.exponent → no_operator 9 ≡ read_byte k m (gate_of b)
+  deep : largest_exponent < f.exponent → Err 9 ≡ read_byte k m (gate_of b)
   deep h = rw (known, test true (lt-ltb largest_exponent f.exponent h)) refl
 
-  shallow : f.exponent ≤ largest_exponent → record { refusal = 0; exponent = f.exponent; matrix = f.matrix } ≡ read_byte k m (gate_of b)
-  shallow h = rw (known, test false (le-ltb largest_exponent f.exponent h)) (ap (λ (x : Least). record { refusal = 0; exponent = x.exponent; matrix = x.matrix }) more)
+  shallow : f.exponent ≤ largest_exponent → Ok f ≡ read_byte k m (gate_of b)
+  shallow h = rw (known, test false (le-ltb largest_exponent f.exponent h)) (ap Ok more)
 
 pub returns-then-b-ne67 : goal.returns-then-b-ne67
-returns-then-b-ne67 c =
-    rw (no_letter c.args.b c.requires.3 c.if-b-ne67.true) c.refused.ensures
+returns-then-b-ne67 c = rw (no_letter c.args.b c.requires.3 c.if-b-ne67.true) refl
 
 pub times_columns-before-requires : goal.times_columns-before-requires
 times_columns-before-requires c =
@@ -54,7 +54,7 @@ times_cs-matrix-requires c =
 
 pub returns-then-exponent-gt-LARGEST_EXPONENT : goal.returns-then-exponent-gt-LARGEST_EXPONENT
 returns-then-exponent-gt-LARGEST_EXPONENT c =
-    c.refused-then-exponent-gt-LARGEST_EXPONENT.ensures ∙ deep c.args.k (times_columns c.args.m c.args.columns) c.args.b (omega arith) _ ((c.least_form-exponent.ensures ∙ ap (least_form (c.args.k + 1)) (c.times_cs-matrix.ensures ∙ ap (λ x. listed (product 6 (entry x) (generator 3))) c.times_columns-before.ensures))) c.if-exponent-gt-LARGEST_EXPONENT.true
+    deep c.args.k (times_columns c.args.m c.args.columns) c.args.b (omega arith) _ ((c.least_form-exponent.ensures ∙ ap (least_form (c.args.k + 1)) (c.times_cs-matrix.ensures ∙ ap (λ x. listed (product 6 (entry x) (generator 3))) c.times_columns-before.ensures))) c.if-exponent-gt-LARGEST_EXPONENT.true
 
 pub returns : goal.returns
 returns c =

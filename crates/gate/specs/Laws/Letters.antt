@@ -1,5 +1,5 @@
 -- A list read from the left on, a stretch and the letter behind it at a time.
-use Rattle.std.specs.Prelude.{◌≡◌, refl, ◌≢◌, List, [], ◌∷◌, ◌++◌, ℕ, ◌+◌, ◌≤◌, ◌<◌, ℤ}
+use Rattle.std.specs.Prelude.{◌≡◌, refl, List, [], ◌∷◌, ◌++◌, ℕ, ◌+◌, ◌≤◌, ◌<◌, ℤ, Option, Result, Ok, Err}
 use Rattle.std.proofs.Math.Path.{sym, ap}
 use Rattle.std.proofs.Common.{ap₂, subst, ◌∙◌, add-one, drop-cons}
 use native.Mathlib.Omega.{arith}
@@ -7,9 +7,9 @@ use Rattle.std.proofs.Math.ListN.{length, get_or, drop}
 use Rattle.std.proofs.Math.Seq.{drop-length}
 use Rattle.matrix.specs.Matrix.{δ, entry, listed}
 use Rattle.matrix.specs.Operator.{operator, Orthogonal}
-use Rattle.matrix.specs.Array.{Least, least_form}
+use Rattle.matrix.specs.declared.Least.{Least}
+use Rattle.matrix.specs.Array.{least, least_form}
 use Rattle.matrix.specs.Laws.Array.{operator_of}
-use Rattle.file.specs.declared.Read.{Read}
 use Rattle.file.specs.File.{largest_exponent}
 use Rattle.letter.specs.declared.Gate.{Gate}
 use Rattle.letter.specs.Gate.{gate_of}
@@ -39,11 +39,11 @@ module _ (bs : List ℕ) (k : ℕ) (m : List ℤ) (n : ℕ) (s : ReadTo bs k m n
   read_orthogonal = subst (λ (l : Least). Orthogonal (operator_of l)) (λ i. record { exponent = sym s.exponent i; matrix = sym s.matrix i }) (least_of_orthogonal s.w)
 
   -- all letters are read
-  pub read_all : length bs ≤ n → ReadAs (read_from [] bs) (record { refusal = 0; exponent = k; matrix = m })
+  pub read_all : length bs ≤ n → ReadAs (read_from [] bs) (Ok (least k m))
   unfolding read_from
   read_all h =
       let e : n ≡ length bs = let i = s.inside in omega arith in
-      rw (s.reads ∙ ap (read_from s.w) (ap (λ x. drop x bs) e ∙ drop-length bs)) (refl, s.exponent, s.matrix, rw s.exponent at s.small)
+      rw (s.reads ∙ ap (read_from s.w) (ap (λ x. drop x bs) e ∙ drop-length bs)) (ap₂ (λ a b. Ok (least a b)) s.exponent s.matrix, rw s.exponent at s.small)
 
   -- a stretch behind it
   module _ (t : Stretch) (z : StretchOf bs n t) where
@@ -69,23 +69,28 @@ module _ (bs : List ℕ) (k : ℕ) (m : List ℤ) (n : ℕ) (s : ReadTo bs k m n
       small = s.small;
     }
 
--- a letter, of which r is known
-module _ (bs : List ℕ) (k : ℕ) (m : List ℤ) (n : ℕ) (s : ReadTo bs k m n) (h : n < length bs) (r : Read) (e : r ≡ read_byte k m (gate_of (get_or bs n 0))) where
+-- a letter more
+module _ (bs : List ℕ) (k : ℕ) (m : List ℤ) (n : ℕ) (s : ReadTo bs k m n) (h : n < length bs) where
   rest : List Gate → Reading
   rest v = read_from v (drop (n + 1) bs)
 
-  given : r ≡ read_byte (least_of s.w).exponent (least_of s.w).matrix (gate_of (get_or bs n 0))
-  given = e ∙ ap₂ (λ a b. read_byte a b (gate_of (get_or bs n 0))) s.exponent s.matrix
+  letter_here : Option Gate
+  letter_here = gate_of (get_or bs n 0)
 
-  here : read_from [] bs ≡ read_letter s.w rest (gate_of (get_or bs n 0))
-  unfolding read_from rest
+  same : {r : Result Least ℕ} → r ≡ read_byte k m letter_here → r ≡ read_byte (least_of s.w).exponent (least_of s.w).matrix letter_here
+  same e = e ∙ ap₂ (λ a b. read_byte a b letter_here) s.exponent s.matrix
+
+  here : read_from [] bs ≡ read_letter s.w rest letter_here
+  unfolding read_from rest letter_here
   here = s.reads ∙ ap (read_from s.w) (drop-cons bs n 0 h ∙ ap (λ x. get_or bs n 0 ∷ drop x bs) (sym (add-one n)))
 
-  pub read_more : r.refusal ≡ 0 → ReadTo bs r.exponent r.matrix (n + 1)
-  unfolding rest
-  read_more z =
-      let o = onward s.w rest (gate_of (get_or bs n 0)) r given z in
-      record { inside = omega arith; w = s.w ++ o.gate ∷ []; reads = here ∙ o.reads; exponent = o.exponent; matrix = o.matrix; small = rw o.exponent o.small }
+  pub read_more : (r : Least) → Ok r ≡ read_byte k m (gate_of (get_or bs n 0)) → ReadTo bs r.exponent r.matrix (n + 1)
+  unfolding rest letter_here
+  read_more r e =
+      let o = onward s.w rest letter_here r (same e) in
+      let x = ap (λ (f : Least). f.exponent) o.product in
+      record { inside = omega arith; w = s.w ++ o.gate ∷ []; reads = here ∙ o.reads; exponent = x; matrix = ap (λ (f : Least). f.matrix) o.product; small = rw x o.small }
 
-  pub read_over : r.refusal ≢ 0 → ReadAs (read_from [] bs) r
-  read_over z = subst (λ x. ReadAs x r) (sym (here ∙ stopped s.w rest (gate_of (get_or bs n 0)) r given z)) (refl, omega arith)
+  pub read_over : (e : ℕ) → Err e ≡ read_byte k m (gate_of (get_or bs n 0)) → ReadAs (read_from [] bs) (Err e)
+  unfolding letter_here
+  read_over e z = subst (λ x. ReadAs x (Err e)) (sym (here ∙ stopped s.w rest letter_here e (same z))) refl

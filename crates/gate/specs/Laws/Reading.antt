@@ -1,5 +1,5 @@
 -- What a list is read into, and which place of a list that is not read earns its refusal.
-use Rattle.std.specs.Prelude.{◌≡◌, refl, Bool, true, false, cond, List, [], ◌∷◌, ◌++◌, map, ℕ, ◌<◌, ◌≤◌, ltb, length, take}
+use Rattle.std.specs.Prelude.{◌≡◌, refl, Bool, true, false, cond, List, [], ◌∷◌, ◌++◌, map, ℕ, ◌<◌, ◌≤◌, ltb, length, take, Option, Some, None, Result, Ok, Err}
 use Rattle.std.proofs.Common.{sym, ap, subst, ◌∙◌, append-nil, arith, length-append, ltb-true, ltb-false}
 use Rattle.std.proofs.Math.Decide.{dec_lt}
 use Rattle.std.proofs.lemmas.List.{take-append-le}
@@ -9,13 +9,9 @@ use Rattle.matrix.specs.Array.{least_form}
 use Rattle.matrix.specs.Operator.{SameOperator, Orthogonal, Reduced, LeastExponent}
 use Rattle.matrix.specs.Laws.Operator.{same_operator_sym, same_operator_trans, same_orthogonal, least_same, least_unique}
 use Rattle.matrix.specs.Laws.Array.{operator_of, listed_same, length_listed, least_form_lem, least_exponent}
-use Rattle.file.specs.declared.Answer.{Answer}
-use Rattle.file.specs.declared.Answer.TheVariants.{Count, Refused}
 use Rattle.file.specs.File.{largest_exponent, length_for}
 use Rattle.file.specs.Laws.File.{exponent_back, operator_back}
 use Rattle.letter.specs.declared.Gate.{Gate}
-use Rattle.letter.specs.declared.Letter.{Letter}
-use Rattle.letter.specs.declared.Letter.TheVariants.{Is, Unknown}
 use Rattle.letter.specs.Gate.{letter, gate_of}
 use Rattle.letter.specs.Laws.Gate.{letter_of_gate}
 use Rattle.gate.specs.Product.{product_of}
@@ -82,7 +78,7 @@ map_snoc [] g bs = refl
 map_snoc (x ∷ w) g bs = ap (λ l. letter x ∷ l) (map_snoc w g bs)
 
 module _ (cs : List ℕ) (w : List Gate) (b : ℕ) (bs : List ℕ) (e : cs ≡ map letter w ++ (b ∷ bs)) (s : Shallow w) where
-  unknown_byte : gate_of b ≡ Unknown → EarnsEight cs
+  unknown_byte : gate_of b ≡ None → EarnsEight cs
   unknown_byte u = record {
     w = w;
     byte = b;
@@ -92,13 +88,13 @@ module _ (cs : List ℕ) (w : List Gate) (b : ℕ) (bs : List ℕ) (e : cs ≡ m
     unknown = u;
   }
 
-  known_byte : (g : Gate) → gate_of b ≡ Is g → cs ≡ map letter (w ++ g ∷ []) ++ bs
+  known_byte : (g : Gate) → gate_of b ≡ Some g → cs ≡ map letter (w ++ g ∷ []) ++ bs
   known_byte g u = e ∙ ap (λ x. map letter w ++ (x ∷ bs)) (letter_of_gate b g u) ∙ map_snoc w g bs
 
-  one_letter : (rest : List Gate → Reading) → ((g : Gate) → cs ≡ map letter (w ++ g ∷ []) ++ bs → Shallow (w ++ g ∷ []) → Outcome cs (rest (w ++ g ∷ []))) → (l : Letter) → gate_of b ≡ l
+  one_letter : (rest : List Gate → Reading) → ((g : Gate) → cs ≡ map letter (w ++ g ∷ []) ++ bs → Shallow (w ++ g ∷ []) → Outcome cs (rest (w ++ g ∷ []))) → (l : Option Gate) → gate_of b ≡ l
       → Outcome cs (read_letter w rest l)
-  one_letter rest more Unknown u = (λ n. unknown_byte u, λ n. absurd (omega arith))
-  one_letter rest more (Is g) u = go (ltb largest_exponent (least_of (w ++ g ∷ [])).exponent) refl
+  one_letter rest more None u = (λ n. unknown_byte u, λ n. absurd (omega arith))
+  one_letter rest more (Some g) u = go (ltb largest_exponent (least_of (w ++ g ∷ [])).exponent) refl
     where
       go : (t : Bool) → ltb largest_exponent (least_of (w ++ g ∷ [])).exponent ≡ t → Outcome cs (cond t (refusal 9) (rest (w ++ g ∷ [])))
       go true t = (
@@ -146,15 +142,15 @@ read_into bs w e =
     }
 
 -- an answer above 6 is that of the reading
-as_read : (n : ℕ) (x : Reading) (k : ℕ) → 6 < k → Refused k ≡ operator_answer n x → x ≡ refusal k
+as_read : (n : ℕ) (x : Reading) (k : ℕ) → 6 < k → Err k ≡ operator_answer n x → x ≡ refusal k
 as_read n (refusal m) k h e = cc
 as_read n (gates w) k h e = go (ltb n (length_for (least_of w).exponent)) e
   where
-    go : (t : Bool) → Refused k ≡ cond t (Refused 6) (Count (least_of w).exponent) → gates w ≡ refusal k
+    go : (t : Bool) → Err k ≡ cond t (Err 6) (Ok (least_of w).exponent) → gates w ≡ refusal k
     go true e = let z : k ≡ 6 = cc in absurd (omega arith)
     go false e = let z : ◌≡◌ {A = ℕ} 0 1 = cc in absurd (omega arith)
 
-pub promised : (bs old : List ℕ) {new : List ℕ} {a : Answer} → a ≡ operator_answer (length old) (reading bs) → new ≡ operator_buffer old (reading bs) → ProductPromise bs old new a
+pub promised : (bs old : List ℕ) {new : List ℕ} {a : Result ℕ ℕ} → a ≡ operator_answer (length old) (reading bs) → new ≡ operator_buffer old (reading bs) → ProductPromise bs old new a
 promised bs old p q = record {
   answer = p;
   buffer = q;

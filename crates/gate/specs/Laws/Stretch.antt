@@ -1,33 +1,32 @@
 -- Reading by stretches: the product at its least exponent goes along with the gates read.
-use Rattle.std.specs.Prelude.{◌≡◌, refl, ◌≢◌, Bool, true, not, cond, List, [], ◌∷◌, ◌++◌, ℕ, suc, ◌+◌, ◌<◌, ◌≤◌, T, ℤ, length, get_or, drop}
+use Rattle.std.specs.Prelude.{◌≡◌, refl, ◌≢◌, Bool, true, cond, List, [], ◌∷◌, ◌++◌, ℕ, suc, ◌+◌, ◌<◌, ◌≤◌, T, ℤ, length, get_or, drop, Option, Some, None, Result, Ok, Err}
 use Rattle.std.proofs.Math.Path.{sym, ap}
 use Rattle.std.proofs.Common.{ap₂, subst, ◌∙◌, append_assoc, append-nil, add-zero, add-one, arith, drop-cons, ltb-false, le-ltb}
 use Rattle.std.proofs.Math.Bool.{false}
 use Rattle.std.proofs.Math.Dec.{ltb}
 use Rattle.matrix.specs.Matrix.{entry, listed, product}
 use Rattle.matrix.specs.Operator.{Operator, operator, times_operator, SameOperator, Orthogonal}
-use Rattle.matrix.specs.Array.{Least, least_form}
+use Rattle.std.proofs.lemmas.Option.{none-some, same_Some}
+use Rattle.refusal.specs.Laws.Refusal.{ok_err, same_err, same_ok}
+use Rattle.matrix.specs.declared.Least.{Least}
+use Rattle.matrix.specs.Array.{least_form}
 use Rattle.matrix.specs.Laws.Matrix.{same_refl, product_cong, product_assoc, product_id_r}
 use Rattle.matrix.specs.Laws.Operator.{same_operator_refl, same_operator_sym, same_operator_trans, same_operator_of, times_same, times_orthogonal, same_orthogonal}
 use Rattle.matrix.specs.Laws.Array.{operator_of, entry_listed, listed_is, listed_cong, listed_same, length_listed, same_least_form}
 use Rattle.matrix.specs.Laws.Inverse.{times_identity}
 use Rattle.matrix.specs.Laws.Right.{least_right}
-use Rattle.file.specs.File.{largest_exponent, no_operator}
+use Rattle.file.specs.File.{largest_exponent}
 use Rattle.clifford.specs.Columns.{columns_matrix, are_permutation}
 use Rattle.clifford.specs.Laws.Columns.{permutation_sound, columns_orthogonal}
 use Rattle.letter.specs.declared.Gate.{Gate}
 use Rattle.letter.specs.declared.Gate.TheVariants.{H1, H2, S1, S2, Cz, Cs}
-use Rattle.letter.specs.declared.Letter.{Letter}
-use Rattle.letter.specs.declared.Letter.TheVariants.{Is, Unknown}
 use Rattle.letter.specs.Gate.{gate_of, columns, is_cs}
 use Rattle.letter.specs.Composition.{composed, identity_columns}
 use Rattle.letter.specs.Laws.Gate.{letter_of_gate}
 use Rattle.letter.specs.Laws.Matrix.{unit_matrix, composed_matrix, composed_permutation}
-use Rattle.file.specs.declared.Read.{Read}
-use Rattle.gate.specs.declared.Composed.{Composed}
 use Rattle.gate.specs.Product.{image, product_of}
 use Rattle.gate.specs.Reading.{Reading, refusal, least_of, read_letter, read_from}
-use Rattle.gate.specs.Stretch.{times_columns, held, ComposedWith, EndsStretch, CliffordLetters, multiplied, read_byte}
+use Rattle.gate.specs.Stretch.{times_columns, held, composed_letter, EndsStretch, CliffordLetters, multiplied, read_byte}
 use Rattle.gate.specs.Laws.Product.{product_orthogonal, image_orthogonal, product_append}
 use Rattle.gate.specs.Laws.Reading.{least_of_same, least_of_orthogonal, least_of_reduced, least_of_long}
 
@@ -110,7 +109,7 @@ letters_none bs at h = record {
   product = λ w k m e. ap least_of (append-nil w) ∙ e;
 }
 
-module _ (bs : List ℕ) (at : ℕ) (cs : List ℕ) (n : ℕ) (s : CliffordLetters bs at cs n) (h : n < length bs) (g : Gate) (is : gate_of (get_or bs n 0) ≡ Is g) (c : is_cs g ≡ false) where
+module _ (bs : List ℕ) (at : ℕ) (cs : List ℕ) (n : ℕ) (s : CliffordLetters bs at cs n) (h : n < length bs) (g : Gate) (is : gate_of (get_or bs n 0) ≡ Some g) (c : is_cs g ≡ false) where
   behind : (w : List Gate) (k : ℕ) (m : List ℤ) → least_of w ≡ held k m identity_columns → least_of ((w ++ s.gates) ++ g ∷ []) ≡ held k m (composed cs (columns g))
   behind w k m e = held_more (w ++ s.gates) k m cs s.permutation (s.product w k m e) g c
 
@@ -132,27 +131,27 @@ module _ (bs : List ℕ) (at : ℕ) (cs : List ℕ) (n : ℕ) (s : CliffordLette
   }
 
 -- what a byte tells
-pub record Onto (cs : List ℕ) (l : Letter) (r : Composed) : Type 0 where
+pub record Onto (cs : List ℕ) (l : Option Gate) (r : List ℕ) : Type 0 where
   pub gate : Gate
-  pub is : l ≡ Is gate
+  pub is : l ≡ Some gate
   pub clifford : is_cs gate ≡ false
-  pub columns : r.columns ≡ composed cs (Rattle.letter.specs.Gate.columns gate)
+  pub columns : r ≡ composed cs (Rattle.letter.specs.Gate.columns gate)
 
-pub onto : (cs : List ℕ) (l : Letter) (r : Composed) → ComposedWith cs l r → r.clifford ≡ true → Onto cs l r
-onto cs Unknown r w t = absurd (subst T (sym t ∙ w) tt)
-onto cs (Is g) r w t = go (is_cs g) refl w.0 w.1
+pub onto : (cs : List ℕ) (l : Option Gate) (r : List ℕ) → Some r ≡ composed_letter cs l → Onto cs l r
+onto cs None r e = absurd (none-some r (sym e))
+onto cs (Some g) r e = go (is_cs g) refl e
   where
-    go : (b : Bool) → is_cs g ≡ b → r.clifford ≡ not b → r.columns ≡ cond b cs (composed cs (columns g)) → Onto cs (Is g) r
-    go true e x y = absurd (subst T (sym t ∙ x) tt)
-    go false e x y = record { gate = g; is = refl; clifford = e; columns = y }
+    go : (b : Bool) → is_cs g ≡ b → Some r ≡ cond b None (Some (cond b cs (composed cs (columns g)))) → Onto cs (Some g) r
+    go true c x = absurd (none-some r (sym x))
+    go false c x = record { gate = g; is = refl; clifford = c; columns = same_Some _ _ x }
 
-pub ending : (cs : List ℕ) (l : Letter) (r : Composed) → ComposedWith cs l r → r.clifford ≡ false → EndsStretch l
-ending cs Unknown r w t = tt
-ending cs (Is g) r w t = go (is_cs g) w.0
+pub ending : (cs : List ℕ) (l : Option Gate) → None ≡ composed_letter cs l → EndsStretch l
+ending cs None e = tt
+ending cs (Some g) e = go (is_cs g) e
   where
-    go : (b : Bool) → r.clifford ≡ not b → b ≡ true
+    go : (b : Bool) → None ≡ cond b None (Some (cond b cs (composed cs (columns g)))) → b ≡ true
     go true x = refl
-    go false x = sym t ∙ x
+    go false x = absurd (none-some _ x)
 
 -- the matrix at the end of a stretch
 pub held_orthogonal : (k : ℕ) (m : List ℤ) (bs : List ℕ) → are_permutation bs ≡ true → Orthogonal (operator k (entry m)) → Orthogonal (operator k (entry (times_columns m bs)))
@@ -163,56 +162,52 @@ held_orthogonal k m bs p o =
     (times_orthogonal o (columns_orthogonal bs (permutation_sound bs p)))
 
 -- the byte behind a stretch is C, or no letter
-pub no_letter : (b : ℕ) → EndsStretch (gate_of b) → b ≢ 67 → gate_of b ≡ Unknown
+pub no_letter : (b : ℕ) → EndsStretch (gate_of b) → b ≢ 67 → gate_of b ≡ None
 no_letter b e n = go (gate_of b) refl e
   where
-    go : (l : Letter) → gate_of b ≡ l → EndsStretch l → l ≡ Unknown
-    go Unknown u e = refl
-    go (Is H1) u e = absurd (subst T (sym e) tt)
-    go (Is H2) u e = absurd (subst T (sym e) tt)
-    go (Is S1) u e = absurd (subst T (sym e) tt)
-    go (Is S2) u e = absurd (subst T (sym e) tt)
-    go (Is Cz) u e = absurd (subst T (sym e) tt)
-    go (Is Cs) u e = absurd (n (letter_of_gate b Cs u))
+    go : (l : Option Gate) → gate_of b ≡ l → EndsStretch l → l ≡ None
+    go None u e = refl
+    go (Some H1) u e = absurd (subst T (sym e) tt)
+    go (Some H2) u e = absurd (subst T (sym e) tt)
+    go (Some S1) u e = absurd (subst T (sym e) tt)
+    go (Some S2) u e = absurd (subst T (sym e) tt)
+    go (Some Cz) u e = absurd (subst T (sym e) tt)
+    go (Some Cs) u e = absurd (n (letter_of_gate b Cs u))
 
 -- ---- one letter
 
 module _ (w : List Gate) (rest : List Gate → Reading) where
-  pub record Onward (l : Letter) (r : Read) : Type 0 where
+  pub record Onward (l : Option Gate) (r : Least) : Type 0 where
     pub gate : Gate
     pub reads : read_letter w rest l ≡ rest (w ++ gate ∷ [])
-    pub exponent : r.exponent ≡ (least_of (w ++ gate ∷ [])).exponent
-    pub matrix : r.matrix ≡ (least_of (w ++ gate ∷ [])).matrix
+    pub product : r ≡ least_of (w ++ gate ∷ [])
     pub small : (least_of (w ++ gate ∷ [])).exponent ≤ largest_exponent
 
   -- the two definitions make one test
   one_test : (g : Gate) (t : Bool) → ltb largest_exponent (multiplied (least_of w).exponent (least_of w).matrix g).exponent ≡ t → ltb largest_exponent (least_of (w ++ g ∷ [])).exponent ≡ t
   one_test g t e = ap (λ (f : Least). ltb largest_exponent f.exponent) (sym (multiplied_of w g)) ∙ e
 
-  pub onward : (l : Letter) (r : Read) → r ≡ read_byte (least_of w).exponent (least_of w).matrix l → r.refusal ≡ 0 → Onward l r
-  onward Unknown r e z = let n : ◌≡◌ {A = ℕ} r.refusal 8 = ap (λ (x : Read). x.refusal) e in absurd (omega arith)
-  onward (Is g) r e z = go (ltb largest_exponent (multiplied (least_of w).exponent (least_of w).matrix g).exponent) refl e
+  pub onward : (l : Option Gate) (r : Least) → Ok r ≡ read_byte (least_of w).exponent (least_of w).matrix l → Onward l r
+  onward None r e = absurd (ok_err e)
+  onward (Some g) r e = go (ltb largest_exponent (multiplied (least_of w).exponent (least_of w).matrix g).exponent) refl e
     where
       go : (t : Bool) → ltb largest_exponent (multiplied (least_of w).exponent (least_of w).matrix g).exponent ≡ t
-          → r ≡ cond t (no_operator 9)
-          (record { refusal = 0; exponent = (multiplied (least_of w).exponent (least_of w).matrix g).exponent; matrix = (multiplied (least_of w).exponent (least_of w).matrix g).matrix })
-          → Onward (Is g) r
-      go true t e = let n : ◌≡◌ {A = ℕ} r.refusal 9 = ap (λ (x : Read). x.refusal) e in absurd (omega arith)
+          → ◌≡◌ {A = Result Least ℕ} (Ok r) (cond t (Err 9) (Ok (multiplied (least_of w).exponent (least_of w).matrix g)))
+          → Onward (Some g) r
+      go true t e = absurd (ok_err e)
       go false t e = record {
         gate = g;
         reads = rw (one_test g false t);
-        exponent = ap (λ (x : Read). x.exponent) e ∙ ap (λ (f : Least). f.exponent) (multiplied_of w g);
-        matrix = ap (λ (x : Read). x.matrix) e ∙ ap (λ (f : Least). f.matrix) (multiplied_of w g);
+        product = same_ok e ∙ multiplied_of w g;
         small = ltb-false largest_exponent _ (one_test g false t);
       }
 
-  pub stopped : (l : Letter) (r : Read) → r ≡ read_byte (least_of w).exponent (least_of w).matrix l → r.refusal ≢ 0 → read_letter w rest l ≡ refusal r.refusal
-  stopped Unknown r e z = ap refusal (sym (ap (λ (x : Read). x.refusal) e))
-  stopped (Is g) r e z = go (ltb largest_exponent (multiplied (least_of w).exponent (least_of w).matrix g).exponent) refl e
+  pub stopped : (l : Option Gate) (n : ℕ) → Err n ≡ read_byte (least_of w).exponent (least_of w).matrix l → read_letter w rest l ≡ refusal n
+  stopped None n e = ap refusal (sym (same_err e))
+  stopped (Some g) n e = go (ltb largest_exponent (multiplied (least_of w).exponent (least_of w).matrix g).exponent) refl e
     where
       go : (t : Bool) → ltb largest_exponent (multiplied (least_of w).exponent (least_of w).matrix g).exponent ≡ t
-          → r ≡ cond t (no_operator 9)
-          (record { refusal = 0; exponent = (multiplied (least_of w).exponent (least_of w).matrix g).exponent; matrix = (multiplied (least_of w).exponent (least_of w).matrix g).matrix })
-          → read_letter w rest (Is g) ≡ refusal r.refusal
-      go true t e = rw (one_test g true t) (ap refusal (sym (ap (λ (x : Read). x.refusal) e)))
-      go false t e = absurd (z (ap (λ (x : Read). x.refusal) e))
+          → ◌≡◌ {A = Result Least ℕ} (Err n) (cond t (Err 9) (Ok (multiplied (least_of w).exponent (least_of w).matrix g)))
+          → read_letter w rest (Some g) ≡ refusal n
+      go true t e = rw (one_test g true t) (ap refusal (sym (same_err e)))
+      go false t e = absurd (ok_err (sym e))

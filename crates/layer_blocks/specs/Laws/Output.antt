@@ -1,13 +1,12 @@
 -- The text by what the call for layers answers, where the buffer has room for every program's.
 use Rattle.std.proofs.Math.Path.{◌≡◌, sym, ap}
 use Rattle.std.proofs.Common.{◌∙◌, arith}
-use Rattle.std.specs.Prelude.{List, [], ◌∷◌, ◌++◌, ◌≢◌, ℕ, ◌+◌, ◌≤◌, drop}
+use Rattle.std.specs.Prelude.{List, [], ◌∷◌, ◌++◌, ◌≢◌, ℕ, ◌+◌, ◌≤◌, drop, Result, Ok, Err}
 use Rattle.std.proofs.Math.Decide.{ℕ_discrete}
 use Rattle.std.proofs.Math.ListN.{length, take, length-append}
 use Rattle.std.proofs.Math.Seq.{take_at, length-take-le}
 use borrow.Author.Tests.{eq-eqb, ne_eqb, le-ltb}
-use Rattle.file.specs.declared.Answer.{Answer}
-use Rattle.file.specs.declared.Answer.TheVariants.{Count, Refused}
+use Rattle.refusal.specs.Laws.Refusal.{ok_err, same_err, same_ok}
 use Rattle.file.specs.File.{written}
 use Rattle.block.specs.Block.{most_blocks, block_count, block_at, program_refusal}
 use Rattle.block.specs.Laws.Block.{accepted}
@@ -24,12 +23,12 @@ pub record Layered (b new : List ℕ) (n : ℕ) : Type 0 where
   -- room for the two lines
   pub room : length (layers_line n) + length (layer_line (take (block_count 2 b) new)) ≤ 512
 
-module _ (b old new : List ℕ) (a : Answer) (room : most_blocks ≤ length old) (p : LayerPromise b old new a) where
+module _ (b old new : List ℕ) (a : Result ℕ ℕ) (room : most_blocks ≤ length old) (p : LayerPromise b old new a) where
   module _ (z : program_refusal 2 b ≡ 0) where
     fits : block_count 2 b ≤ length old
     fits = let f = (accepted 2 b z).few in omega arith
 
-    answer_is : a ≡ Count (layer_count b)
+    answer_is : a ≡ Ok (layer_count b)
     unfolding layer_answer
     answer_is = p.answer ∙ rw (eq-eqb (program_refusal 2 b) 0 z, le-ltb (length old) (block_count 2 b) fits)
 
@@ -54,20 +53,20 @@ module _ (b old new : List ℕ) (a : Answer) (room : most_blocks ≤ length old)
           text = rw (eq-eqb (program_refusal 2 b) 0 z) (cc (e, f));
         }
 
-  refusal_is : program_refusal 2 b ≢ 0 → a ≡ Refused (program_refusal 2 b)
+  refusal_is : program_refusal 2 b ≢ 0 → a ≡ Err (program_refusal 2 b)
   unfolding layer_answer
   refusal_is n = p.answer ∙ rw (ne_eqb (program_refusal 2 b) 0 n)
 
-  pub layered : (n : ℕ) → a ≡ Count n → Layered b new n
+  pub layered : (n : ℕ) → a ≡ Ok n → Layered b new n
   layered n e = elim (ℕ_discrete (program_refusal 2 b) 0) [
-    | yes z ↦ let f = answer_is z in done z n (cc)
-    | no m ↦ let f = refusal_is m in let x : ◌≡◌ {A = ℕ} 0 1 = cc in absurd (omega arith)
+    | yes z ↦ done z n (same_ok (sym e ∙ answer_is z))
+    | no m ↦ absurd (ok_err (sym e ∙ refusal_is m))
   ]
 
   -- after a refusal
-  pub refused : (n : ℕ) → a ≡ Refused n → layer_text b ≡ refused_line n
+  pub refused : (n : ℕ) → a ≡ Err n → layer_text b ≡ refused_line n
   unfolding layer_text
   refused n e = elim (ℕ_discrete (program_refusal 2 b) 0) [
-    | yes z ↦ let f = answer_is z in let x : ◌≡◌ {A = ℕ} 0 1 = cc in absurd (omega arith)
-    | no m ↦ let f = refusal_is m in let x : program_refusal 2 b ≡ n = cc in rw (ne_eqb (program_refusal 2 b) 0 m) (ap refused_line x)
+    | yes z ↦ absurd (ok_err (sym (answer_is z) ∙ e))
+    | no m ↦ rw (ne_eqb (program_refusal 2 b) 0 m) (ap refused_line (same_err (sym (refusal_is m) ∙ e)))
   ]

@@ -1,17 +1,17 @@
 -- The text by what the call for a gate list answers, where the buffer has room for every list.
-use Rattle.std.specs.Prelude.{◌≡◌, ℕ, ◌+◌, ◌≤◌, drop}
+use Rattle.std.specs.Prelude.{◌≡◌, ℕ, ◌+◌, ◌≤◌, drop, Result, Ok, Err}
 use Rattle.std.proofs.Math.Path.{sym, ap}
 use Rattle.std.proofs.Common.{◌∙◌, arith}
 use mathlib.Core.List.{List, [], ◌∷◌, ◌++◌, map}
 use Rattle.std.proofs.Math.Decide.{ℕ_discrete}
 use Rattle.std.proofs.Math.ListN.{length, take, length-append, length-map}
 use Rattle.std.proofs.Math.Seq.{take_at, length-take-le}
+use Rattle.refusal.specs.Laws.Refusal.{ok_err, same_err, same_ok}
 use Rattle.file.specs.File.{written}
 use Rattle.letter.specs.declared.Gate.{Gate}
 use Rattle.letter.specs.Gate.{letter}
 use Rattle.gate.specs.Reading.{gates_buffer}
 use Rattle.operator.specs.declared.Listed.{Listed}
-use Rattle.operator.specs.declared.Listed.TheVariants.{Letters, Refused}
 use Rattle.acceptance.specs.Acceptance.{file_refusal}
 use Rattle.acceptance.specs.Cutting.{file_count, file_loose}
 use Rattle.operator.specs.Promise.{Handed, GatesPromise}
@@ -27,7 +27,7 @@ pub record Lettered (b new : List ℕ) (t n l s : ℕ) : Type 0 where
   -- room for the four lines
   pub room : length (count_line t) + length (gates_line (take n new)) + length (loose_line l) + length (sign_line s) ≤ 16384
 
-module _ (b old new : List ℕ) (a : Listed) (room : gates_buffer ≤ length old) (p : GatesPromise b old new a) where
+module _ (b old new : List ℕ) (a : Result Listed ℕ) (room : gates_buffer ≤ length old) (p : GatesPromise b old new a) where
   handed : (z : file_refusal b ≡ 0) → (w : List Gate) × (s : ℕ) × Handed b old new a w s
   handed z = let k = count_small b z in p.handed z (omega arith)
 
@@ -51,15 +51,18 @@ module _ (b old new : List ℕ) (a : Listed) (room : gates_buffer ≤ length old
         text = record { refused = λ y. absurd (y z); listed = λ _. (w, r, (cc (e, g, q, x)), h.list) };
       }
 
-  pub lettered : (t n l s : ℕ) → a ≡ Letters t n l s → Lettered b new t n l s
-  lettered t n l s e = elim (ℕ_discrete (file_refusal b) 0) [
-    | yes z ↦ let (w, r, h) = handed z in let f = h.answer in done z w r h t n l s (cc) (cc) (cc) (cc)
-    | no x ↦ let f = (p.refused x).0 in let y : ◌≡◌ {A = ℕ} 0 1 = cc in absurd (omega arith)
+  pub lettered : (x : Listed) → a ≡ Ok x → Lettered b new x.count x.letters x.loose x.sign
+  lettered x e = elim (ℕ_discrete (file_refusal b) 0) [
+    | yes z ↦
+        let (w, r, h) = handed z in
+        let f = same_ok (sym e ∙ h.answer) in
+        done z w r h x.count x.letters x.loose x.sign (ap (λ y. y.count) f) (ap (λ y. y.letters) f) (ap (λ y. y.loose) f) (ap (λ y. y.sign) f)
+    | no n ↦ absurd (ok_err (sym e ∙ (p.refused n).0))
   ]
 
   -- after a refusal
-  pub refused : (n : ℕ) → a ≡ Refused n → ListText b (refused_line n)
+  pub refused : (n : ℕ) → a ≡ Err n → ListText b (refused_line n)
   refused n e = elim (ℕ_discrete (file_refusal b) 0) [
-    | yes z ↦ let (w, r, h) = handed z in let f = h.answer in let y : ◌≡◌ {A = ℕ} 0 1 = cc in absurd (omega arith)
-    | no x ↦ let f = (p.refused x).0 in let y : n ≡ file_refusal b = cc in record { refused = λ _. ap refused_line y; listed = λ z. absurd (x z) }
+    | yes z ↦ let (w, r, h) = handed z in absurd (ok_err (sym h.answer ∙ e))
+    | no x ↦ record { refused = λ _. ap refused_line (same_err (sym e ∙ (p.refused x).0)); listed = λ z. absurd (x z) }
   ]

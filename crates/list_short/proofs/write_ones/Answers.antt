@@ -11,13 +11,13 @@ use Rattle.list_short.proofs.write_ones.Goals as goal
 pub loop-g-init : goal.loop-g-init
 loop-g-init c = begun_none one_of c.args.at c.args.out.now
 
-pub write_entry-next-requires : goal.write_entry-next-requires
-write_entry-next-requires c =
+pub write_entry-end-requires : goal.write_entry-end-requires
+write_entry-end-requires c =
     (omega arith, omega arith, begun_room 10 one_most c.requires (omega arith) c.loop-g.invariant)
 
 pub loop-g-preserved : goal.loop-g-preserved
 loop-g-preserved c =
-    begun_next 10 one_most c.requires (omega arith) c.loop-g.invariant (appended_as (ap (λ s. lines_of (if_read s)) (plain_is (c.loop-g.g ∷ []))) c.write_entry-next.ensures)
+    begun_next 10 one_most c.requires (omega arith) c.loop-g.invariant (appended_as (ap (λ s. lines_of (if_read s)) (plain_is (c.loop-g.g ∷ []))) c.write_entry-end.ensures)
 
 pub returns : goal.returns
 returns c = appended_as ones_done (begun_all c.loop-g.invariant (omega arith))

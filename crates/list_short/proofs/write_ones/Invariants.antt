@@ -1,11 +1,7 @@
 -- The invariant: the lines of the numbers below g are in the buffer.
-use Prim.Native.Nat.{◌-◌}
 use Rattle.list_short.specs.Laws.Loop.{Begun}
 use Rattle.list_short.specs.Laws.Output.{one_of}
 use Rattle.list_short.proofs.write_ones.Given as goal
 
 abbrev pub invariant-loop-g : goal.invariant-loop-g
 invariant-loop-g l = Begun one_of l.at l.initial.out l.g l.out l.end
-
-abbrev pub decreases-loop-g : goal.decreases-loop-g
-decreases-loop-g l = 16 - l.g

@@ -11,13 +11,13 @@ use Rattle.list_short.proofs.write_pairs.Goals as goal
 pub loop-h-init : goal.loop-h-init
 loop-h-init c = begun_none (pair_of c.args.g) c.args.at c.args.out.now
 
-pub write_entry-next-requires : goal.write_entry-next-requires
-write_entry-next-requires c =
+pub write_entry-end-requires : goal.write_entry-end-requires
+write_entry-end-requires c =
     (omega arith, omega arith, begun_room 10 (pair_most c.args.g) c.requires (omega arith) c.loop-h.invariant)
 
 pub loop-h-preserved : goal.loop-h-preserved
 loop-h-preserved c =
-    begun_next 10 (pair_most c.args.g) c.requires (omega arith) c.loop-h.invariant (appended_as (ap (λ s. lines_of (if_read s)) (plain_is (c.args.g ∷ c.loop-h.h ∷ []))) c.write_entry-next.ensures)
+    begun_next 10 (pair_most c.args.g) c.requires (omega arith) c.loop-h.invariant (appended_as (ap (λ s. lines_of (if_read s)) (plain_is (c.args.g ∷ c.loop-h.h ∷ []))) c.write_entry-end.ensures)
 
 pub returns : goal.returns
 returns c = appended_as (pairs_done c.args.g) (begun_all c.loop-h.invariant (omega arith))

@@ -8,13 +8,13 @@ use Rattle.list_short.proofs.write_twos.Goals as goal
 pub loop-g-init : goal.loop-g-init
 loop-g-init c = begun_none pairs_of c.args.at c.args.out.now
 
-pub write_pairs-next-requires : goal.write_pairs-next-requires
-write_pairs-next-requires c =
+pub write_pairs-end-requires : goal.write_pairs-end-requires
+write_pairs-end-requires c =
     begun_room 150 pairs_most c.requires (omega arith) c.loop-g.invariant
 
 pub loop-g-preserved : goal.loop-g-preserved
 loop-g-preserved c =
-    begun_next 150 pairs_most c.requires (omega arith) c.loop-g.invariant c.write_pairs-next.ensures
+    begun_next 150 pairs_most c.requires (omega arith) c.loop-g.invariant c.write_pairs-end.ensures
 
 pub returns : goal.returns
 returns c = appended_as twos_done (begun_all c.loop-g.invariant (omega arith))

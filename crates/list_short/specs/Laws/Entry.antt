@@ -1,10 +1,9 @@
 -- One sheet: the call's answer says whether it is read, and it has a line of at most ten bytes if it is, and else none.
-use Rattle.std.specs.Prelude.{◌≡◌, refl, Bool, true, false, ℕ, ◌-◌, ◌≤◌, eqb, length, drop}
+use Rattle.std.specs.Prelude.{◌≡◌, refl, Bool, true, false, ℕ, ◌-◌, ◌≤◌, eqb, length, drop, Result, Ok, Err}
 use Rattle.std.proofs.Common.{sym, ap, ◌∙◌, arith, length-drop, length-take-le, eq-eqb, ne_eqb}
 use mathlib.Core.List.{List, [], ◌∷◌, flat_map, append-nil}
 use Rattle.std.proofs.Math.Decide.{ℕ_discrete}
-use Rattle.file.specs.declared.Answer.{Answer}
-use Rattle.file.specs.declared.Answer.TheVariants.{Count, Refused}
+use Rattle.refusal.specs.Laws.Refusal.{ok_err}
 use Rattle.file.specs.File.{long_length}
 use Rattle.sheet_bytes.specs.Bytes.{shortest, sheet_numbers}
 use Rattle.sheet_bytes.specs.Sheet.{sheet_refusal}
@@ -16,16 +15,16 @@ use Rattle.short_sheet.specs.Short.{if_read}
 use Rattle.list_short.specs.Output.{short_line, lines_of}
 
 -- the answer of the call says whether it is read
-module _ {s old new : List ℕ} {a : Answer} (room : long_length ≤ length old) (p : OperatorPromise s old new a) where
-  pub read : (k : ℕ) → a ≡ Count k → eqb (sheet_refusal s) 0 ≡ true
+module _ {s old new : List ℕ} {a : Result ℕ ℕ} (room : long_length ≤ length old) (p : OperatorPromise s old new a) where
+  pub read : (k : ℕ) → a ≡ Ok k → eqb (sheet_refusal s) 0 ≡ true
   read k e = elim (ℕ_discrete (sheet_refusal s) 0) [
     | yes z ↦ eq-eqb (sheet_refusal s) 0 z
-    | no n ↦ let f = answer_refused room p n in let x : ◌≡◌ {A = ℕ} 0 1 = cc in absurd (omega arith)
+    | no n ↦ absurd (ok_err (sym e ∙ answer_refused room p n))
   ]
 
-  pub not_read : (n : ℕ) → a ≡ Refused n → eqb (sheet_refusal s) 0 ≡ false
+  pub not_read : (n : ℕ) → a ≡ Err n → eqb (sheet_refusal s) 0 ≡ false
   not_read n e = elim (ℕ_discrete (sheet_refusal s) 0) [
-    | yes z ↦ let f = answer_count room p z in let x : ◌≡◌ {A = ℕ} 0 1 = cc in absurd (omega arith)
+    | yes z ↦ absurd (ok_err (sym (answer_count room p z) ∙ e))
     | no m ↦ ne_eqb (sheet_refusal s) 0 m
   ]
 

@@ -1,5 +1,6 @@
 -- The text is that of the answer's case.
-use mathlib.Core.Path.{◌≡◌}
+use Rattle.std.specs.Prelude.{Err}
+use mathlib.Core.Path.{◌≡◌, refl, sym, ap}
 use mathlib.Core.List.{List, [], ◌∷◌, ◌++◌}
 use Prim.Native.Nat.{ℕ, ◌+◌}
 use native.Mathlib.Omega.{arith}
@@ -19,38 +20,38 @@ size t loose w =
 
 pub write_list-end-requires : goal.write_list-end-requires
 write_list-end-requires c =
-    let k = lettered _ _ _ _ (omega arith) c.unitary_to_gates-answer.ensures _ _ _ _ c.in-Letters.is in
+    let k = lettered _ _ _ _ (omega arith) c.in-Ok.ensures _ refl in
     let r = k.room in
     omega arith
 
 pub write_omega-requires : goal.write_omega-requires
 write_omega-requires c =
-    let k = lettered _ _ _ _ (omega arith) c.unitary_to_gates-answer.ensures _ _ _ _ c.in-Letters.is in
+    let k = lettered _ _ _ _ (omega arith) c.in-Ok.ensures _ refl in
     let r = k.room in
-    let z = size c.in-Letters.count c.in-Letters.loose (take c.in-Letters.letters c.unitary_to_gates-answer.new.out) in
+    let z = size c.in-Ok.list.count c.in-Ok.list.loose (take c.in-Ok.list.letters c.unitary_to_gates.new.out) in
     let a = c.write_list-end.ensures in
     let e = a.next in
     let n = appended_length a (omega arith) in
     omega arith
 
 pub write_refused-requires : goal.write_refused-requires
-write_refused-requires c = let l = line_length refused_word (c.in-Refused.refusal ∷ []) in omega arith
+write_refused-requires c = let l = line_length refused_word (c.number.result ∷ []) in omega arith
 
-pub returns-in-Letters : goal.returns-in-Letters
-returns-in-Letters c =
-    let k = lettered _ _ _ _ (omega arith) c.unitary_to_gates-answer.ensures _ _ _ _ c.in-Letters.is in
+pub returns-in-Ok : goal.returns-in-Ok
+returns-in-Ok c =
+    let k = lettered _ _ _ _ (omega arith) c.in-Ok.ensures _ refl in
     let r = k.room in
-    let w = take c.in-Letters.letters c.unitary_to_gates-answer.new.out in
-    let z = size c.in-Letters.count c.in-Letters.loose w in
-    let first = list_lines c.in-Letters.count w c.in-Letters.loose in
-    let last = omega_line c.in-Letters.power in
+    let w = take c.in-Ok.list.letters c.unitary_to_gates.new.out in
+    let z = size c.in-Ok.list.count c.in-Ok.list.loose w in
+    let first = list_lines c.in-Ok.list.count w c.in-Ok.list.loose in
+    let last = omega_line c.in-Ok.list.power in
     let n = length-append first last in
     let a = appended_append c.write_list-end.ensures (omega arith) c.write_omega.ensures in
     (record { text = first ++ last; says = k.text; stands = a }, within a (omega arith))
 
-pub returns-in-Refused : goal.returns-in-Refused
-returns-in-Refused c =
-    let e = refused _ _ _ _ (omega arith) c.unitary_to_gates-answer.ensures _ c.in-Refused.is in
-    let l = line_length refused_word (c.in-Refused.refusal ∷ []) in
+pub returns-in-Err : goal.returns-in-Err
+returns-in-Err c =
+    let e = refused _ _ _ _ (omega arith) c.in-Err.ensures _ (ap Err (sym c.number.ensures.0)) in
+    let l = line_length refused_word (c.number.result ∷ []) in
     let a = c.write_refused.ensures in
-    (record { text = refused_line c.in-Refused.refusal; says = e; stands = a }, within a (omega arith))
+    (record { text = refused_line c.number.result; says = e; stands = a }, within a (omega arith))

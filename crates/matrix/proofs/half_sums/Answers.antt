@@ -2,7 +2,6 @@ use mathlib.Core.List.{List}
 use mathlib.Core.Path.{◌≡◌, ◌∙◌}
 use Prim.Native.Nat.{ℕ, ◌+◌, ◌*◌, ◌^◌, ◌≤◌, ◌<◌}
 use native.Mathlib.Omega.{arith}
-use borrow.Author.Rules.{rules}
 use lib.IntN.{ℤ, nat_abs, ◌+ℤ◌, ◌-ℤ◌}
 use lib.ListN.{length, set, length-set}
 use Rattle.matrix.specs.Integer.{half}
@@ -46,7 +45,7 @@ pub loop-c-preserved : goal.loop-c-preserved
 loop-c-preserved c =
     let a = c.args in
     let p = c.requires in
-    (search rules, rw c.half_pair.ensures (turn a.m.now a.i a.j p.0 p.1 c.loop-c.m c.loop-c.c c.loop-c-test.true c.loop-c.invariant.1))
+    rw c.half_pair.ensures (turn a.m.now a.i a.j p.0 p.1 c.loop-c.m c.loop-c.c c.loop-c-test.true c.loop-c.invariant)
 
 pub returns : goal.returns
-returns c = columns_all _ _ _ _ (omega arith) c.loop-c.invariant.1
+returns c = columns_all _ _ _ _ (omega arith) c.loop-c.invariant

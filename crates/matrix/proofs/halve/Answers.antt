@@ -7,5 +7,5 @@ use Rattle.matrix.proofs.halve.Goals as goal
 pub returns : goal.returns
 unfolding listed
 returns c =
-    let e : c.loop-n.n ≡ 36 = omega arith in
-    filled_all _ _ _ 36 _ (rw e at c.loop-n.invariant.2) (sym c.loop-n.invariant.1)
+    let e : c.loop-x.x-index ≡ 36 = omega arith in
+    filled_all _ _ _ 36 _ (rw e at c.loop-x.invariant.1) (sym c.loop-x.invariant.0)

@@ -1,6 +1,6 @@
--- The invariant: the elements before n are halved, and from n on they are as they were.
+-- The invariant: the elements before x are halved, and from x on they are as they were.
 use mathlib.Core.Path.{◌≡◌}
-use Prim.Native.Nat.{ℕ, ◌-◌, ◌/◌, ◌%◌, ◌≤◌}
+use Prim.Native.Nat.{ℕ, ◌/◌, ◌%◌}
 use mathlib.Core.List.{List}
 use lib.IntN.{ℤ, pos}
 use lib.ListN.{length}
@@ -12,8 +12,5 @@ use Rattle.matrix.proofs.halve.Given as goal
 abbrev pub half_at : List ℤ → ℕ → ℤ
 half_at m n = halved (entry m) (n / 6) (n % 6)
 
-abbrev pub invariant-loop-n : goal.invariant-loop-n
-invariant-loop-n l = (l.n ≤ 36) × (length l.initial.m ≡ 36) × Filled (pos 0) (half_at l.initial.m) l.initial.m l.n l.m
-
-abbrev pub decreases-loop-n : goal.decreases-loop-n
-decreases-loop-n l = 36 - l.n
+abbrev pub invariant-loop-x : goal.invariant-loop-x
+invariant-loop-x l = (length l.initial.m ≡ 36) × Filled (pos 0) (half_at l.initial.m) l.initial.m l.x-index l.m

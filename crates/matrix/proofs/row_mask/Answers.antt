@@ -25,14 +25,14 @@ pub overflow_mul-mask : goal.overflow_mul-mask
 overflow_mul-mask c =
     let m = c.args.m.now in
     let r = c.args.r in
-    let h : c.loop-c.mask < 32 = bits_small (odd_at_lem m r) (one_bit m r) 6 c.loop-c.c (omega arith) c.loop-c.invariant.0 c.loop-c.mask c.loop-c.invariant.1 in
+    let h : c.loop-c.mask < 32 = bits_small (odd_at_lem m r) (one_bit m r) 6 c.loop-c.c (omega arith) (omega arith) c.loop-c.mask c.loop-c.invariant in
     omega arith
 
 pub overflow_add-mask : goal.overflow_add-mask
 overflow_add-mask c =
     let m = c.args.m.now in
     let r = c.args.r in
-    let h : c.loop-c.mask < 32 = bits_small (odd_at_lem m r) (one_bit m r) 6 c.loop-c.c (omega arith) c.loop-c.invariant.0 c.loop-c.mask c.loop-c.invariant.1 in
+    let h : c.loop-c.mask < 32 = bits_small (odd_at_lem m r) (one_bit m r) 6 c.loop-c.c (omega arith) (omega arith) c.loop-c.mask c.loop-c.invariant in
     let p : c.parity_of.result < 2 = rw c.parity_of.ensures (parity_lt _) in
     omega arith
 
@@ -40,8 +40,8 @@ pub loop-c-preserved : goal.loop-c-preserved
 loop-c-preserved c =
     let m = c.args.m.now in
     let r = c.args.r in
-    (search rules, bits_down (odd_at_lem m r) (one_bit m r) 6 c.loop-c.c (omega arith) c.loop-c.invariant.0 c.loop-c.mask _ c.loop-c.invariant.1 (c.parity_of.ensures ∙ ap parity (kept c.parity_of-arg-1.given)))
+    bits_down (odd_at_lem m r) (one_bit m r) 6 c.loop-c.c (omega arith) (omega arith) c.loop-c.mask _ c.loop-c.invariant (c.parity_of.ensures ∙ ap parity (kept c.parity_of-arg-1.given))
 
 pub returns : goal.returns
 unfolding row_mask
-returns c = let z : c.loop-c.c ≡ 0 = omega arith in rw z at c.loop-c.invariant.1
+returns c = let z : c.loop-c.c ≡ 0 = omega arith in rw z at c.loop-c.invariant

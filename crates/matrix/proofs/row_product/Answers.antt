@@ -15,17 +15,17 @@ pub overflow_mul-sum-in-loop-c-2 : goal.overflow_mul-sum-in-loop-c-2
 overflow_mul-sum-in-loop-c-2 c =
     let a = c.args in
     let p = c.requires in
-    fits (product a.m.now a.i a.j c.loop-c.c c.loop-c.sum-bits p.0 p.1 c.loop-c-test.true p.2 c.loop-c.invariant.1) (lit< tt)
+    fits (product a.m.now a.i a.j c.loop-c.c c.loop-c.sum-bits p.0 p.1 c.loop-c-test.true p.2 c.loop-c.invariant) (lit< tt)
 
 pub overflow_add-sum-in-loop-c-2 : goal.overflow_add-sum-in-loop-c-2
 overflow_add-sum-in-loop-c-2 c =
     let a = c.args in
     let p = c.requires in
-    fits (next a.m.now a.i a.j c.loop-c.c c.loop-c.sum-bits p.0 p.1 c.loop-c-test.true p.2 c.loop-c.invariant.1) (omega arith)
+    fits (next a.m.now a.i a.j c.loop-c.c c.loop-c.sum-bits p.0 p.1 c.loop-c-test.true p.2 c.loop-c.invariant) (omega arith)
 
 pub loop-c-preserved : goal.loop-c-preserved
 unfolding range.sum
 loop-c-preserved c =
     let a = c.args in
     let p = c.requires in
-    (search rules, rw add-one (again (next a.m.now a.i a.j c.loop-c.c c.loop-c.sum-bits p.0 p.1 c.loop-c-test.true p.2 c.loop-c.invariant.1) (omega arith)).is)
+    rw add-one (again (next a.m.now a.i a.j c.loop-c.c c.loop-c.sum-bits p.0 p.1 c.loop-c-test.true p.2 c.loop-c.invariant) (omega arith)).is

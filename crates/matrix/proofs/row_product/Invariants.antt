@@ -1,6 +1,6 @@
 -- The invariant: `sum` holds the sum of the first c products. Six products of 2^60 fit.
 use mathlib.Core.Path.{◌≡◌}
-use Prim.Native.Nat.{ℕ, ◌+◌, ◌*◌, ◌-◌, ◌^◌, ◌≤◌, ◌<◌}
+use Prim.Native.Nat.{ℕ, ◌+◌, ◌*◌, ◌^◌, ◌≤◌, ◌<◌}
 use native.Mathlib.Omega.{arith}
 use lib.Dec.{lit<}
 use lib.IntN.{ℤ, ◌+ℤ◌, ◌*ℤ◌}
@@ -34,7 +34,4 @@ module _ (m : List ℤ) (i j s x : ℕ) (hi : i < 6) (hj : j < 6) (hs : s < 6) (
   next = add so_far (again product (lit< tt))
 
 abbrev pub invariant-loop-c : goal.invariant-loop-c
-invariant-loop-c l = (l.c ≤ 6) × (l.sum ≡ range.sum l.c (term l.m l.i l.j))
-
-abbrev pub decreases-loop-c : goal.decreases-loop-c
-decreases-loop-c l = 6 - l.c
+invariant-loop-c l = l.sum ≡ range.sum l.c (term l.m l.i l.j)

@@ -1,5 +1,6 @@
 -- What is written is that of the answer's case.
-use mathlib.Core.Path.{ap}
+use Rattle.std.specs.Prelude.{Err}
+use mathlib.Core.Path.{refl, sym, ap}
 use mathlib.Core.List.{[], ◌∷◌}
 use native.Mathlib.Omega.{arith}
 use lib.ListN.{length}
@@ -12,21 +13,21 @@ use Rattle.multiply_sheet.proofs.answer.Goals as goal
 
 pub write_refused-requires : goal.write_refused-requires
 write_refused-requires c =
-    let (e, f) = refused _ _ _ _ (omega arith) c.sheet_to_operator-answer.ensures _ c.in-Refused.is in
-    let l = line_length refused_word (c.in-Refused.refusal ∷ []) in
+    let (e, f) = refused _ _ _ _ (omega arith) c.in-Err.ensures _ (ap Err (sym c.number.ensures.0)) in
+    let l = line_length refused_word (c.number.result ∷ []) in
     let m = ap length f in
     omega arith
 
-pub returns-in-Count : goal.returns-in-Count
-returns-in-Count c =
-    let (n, a) = filed _ _ _ _ (omega arith) c.sheet_to_operator-answer.ensures _ c.in-Count.is in
-    let h = length_most c.in-Count.count in
+pub returns-in-Ok : goal.returns-in-Ok
+returns-in-Ok c =
+    let (n, a) = filed _ _ _ _ (omega arith) c.in-Ok.ensures _ refl in
+    let h = length_most c.in-Ok.count in
     let e = c.length_for.ensures in
     (rw e a, rw e (within a (omega arith)))
 
-pub returns-in-Refused : goal.returns-in-Refused
-returns-in-Refused c =
-    let (e, f) = refused _ _ _ _ (omega arith) c.sheet_to_operator-answer.ensures _ c.in-Refused.is in
-    let l = line_length refused_word (c.in-Refused.refusal ∷ []) in
+pub returns-in-Err : goal.returns-in-Err
+returns-in-Err c =
+    let (e, f) = refused _ _ _ _ (omega arith) c.in-Err.ensures _ (ap Err (sym c.number.ensures.0)) in
+    let l = line_length refused_word (c.number.result ∷ []) in
     let a = rw f at c.write_refused.ensures in
     (appended_as e a, within a (omega arith))

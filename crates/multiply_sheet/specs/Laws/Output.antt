@@ -1,10 +1,9 @@
 -- What is written by what the call for an operator file answers, where the buffer has room for a file.
-use Rattle.std.specs.Prelude.{◌≡◌, List, ◌≢◌, ℕ, ◌≤◌, length}
-use Rattle.std.proofs.Common.{sym, ap, subst, ◌∙◌, le_trans, arith}
+use Rattle.std.specs.Prelude.{◌≡◌, List, ◌≢◌, ℕ, ◌≤◌, length, Result, Ok, Err}
+use Rattle.std.proofs.Common.{sym, ap, subst, ◌∙◌, le_trans}
 use Rattle.std.proofs.Math.Decide.{ℕ_discrete}
+use Rattle.refusal.specs.Laws.Refusal.{ok_err, same_err, same_ok}
 use borrow.Author.Tests.{eq-eqb, ne_eqb, le-ltb}
-use Rattle.file.specs.declared.Answer.{Answer}
-use Rattle.file.specs.declared.Answer.TheVariants.{Count, Refused}
 use Rattle.file.specs.File.{long_length, length_for, written, Appended}
 use Rattle.file.specs.Laws.File.{length_file, length_most}
 use Rattle.sheet_bytes.specs.Sheet.{sheet_refusal, sheet_least}
@@ -14,7 +13,7 @@ use Rattle.text.specs.Text.{refused_line}
 use Rattle.text.specs.Laws.Text.{front}
 use Rattle.multiply_sheet.specs.Output.{output_of}
 
-module _ (s old new : List ℕ) (a : Answer) (room : long_length ≤ length old) (p : OperatorPromise s old new a) where
+module _ (s old new : List ℕ) (a : Result ℕ ℕ) (room : long_length ≤ length old) (p : OperatorPromise s old new a) where
   fits : length_for (sheet_least s).exponent ≤ length old
   fits = le_trans (length_most (sheet_least s).exponent) room
 
@@ -42,15 +41,15 @@ module _ (s old new : List ℕ) (a : Answer) (room : long_length ≤ length old)
     unchanged = p.buffer ∙ rw (ne_eqb (sheet_refusal s) 0 n)
 
   -- after a count
-  pub filed : (k : ℕ) → a ≡ Count k → (length (output_of s) ≡ length_for k) × Appended (output_of s) 0 old new (length_for k)
+  pub filed : (k : ℕ) → a ≡ Ok k → (length (output_of s) ≡ length_for k) × Appended (output_of s) 0 old new (length_for k)
   filed k e = elim (ℕ_discrete (sheet_refusal s) 0) [
-    | yes z ↦ let f = answer_count room p z in let x : (sheet_least s).exponent ≡ k = cc in done z k x
-    | no n ↦ let f = answer_refused room p n in let x : ◌≡◌ {A = ℕ} 0 1 = cc in absurd (omega arith)
+    | yes z ↦ done z k (same_ok (sym (answer_count room p z) ∙ e))
+    | no n ↦ absurd (ok_err (sym e ∙ answer_refused room p n))
   ]
 
   -- after a refusal
-  pub refused : (n : ℕ) → a ≡ Refused n → (refused_line n ≡ output_of s) × (new ≡ old)
+  pub refused : (n : ℕ) → a ≡ Err n → (refused_line n ≡ output_of s) × (new ≡ old)
   refused n e = elim (ℕ_discrete (sheet_refusal s) 0) [
-    | yes z ↦ let f = answer_count room p z in let x : ◌≡◌ {A = ℕ} 0 1 = cc in absurd (omega arith)
-    | no m ↦ let f = answer_refused room p m in let x : n ≡ sheet_refusal s = cc in (ap refused_line x ∙ line_is m, unchanged m)
+    | yes z ↦ absurd (ok_err (sym (answer_count room p z) ∙ e))
+    | no m ↦ (ap refused_line (same_err (sym e ∙ answer_refused room p m)) ∙ line_is m, unchanged m)
   ]

@@ -1,12 +1,7 @@
--- The invariant: the letters before place `at` are undone.
-use Prim.Native.Nat.{◌-◌, ◌≤◌}
-use lib.ListN.{take}
+-- The invariant: the letters before the one at `b` are undone.
 use Rattle.omega.specs.Modular.{Residues}
 use Rattle.omega.specs.Laws.Undone.{Begun}
 use Rattle.omega.proofs.power_of.Given as goal
 
-abbrev pub invariant-loop-at : goal.invariant-loop-at
-invariant-loop-at l = (l.at ≤ l.count) × Residues l.v × Begun (take l.count l.letters) l.initial.v l.at l.v
-
-abbrev pub decreases-loop-at : goal.decreases-loop-at
-decreases-loop-at l = l.count - l.at
+abbrev pub invariant-loop-b : goal.invariant-loop-b
+invariant-loop-b l = Residues l.v × Begun l.letters l.initial.v l.b-index l.v

@@ -1,5 +1,5 @@
 -- The inverse of each gate times a column, entry by entry, and the letters of a list, undone one after the other.
-use Rattle.std.specs.Prelude.{◌≡◌, refl, List, [], ◌∷◌, map, ℕ, zero, suc, ◌+◌, ◌*◌, ◌%◌, ◌<◌}
+use Rattle.std.specs.Prelude.{◌≡◌, refl, List, [], ◌∷◌, map, ℕ, zero, suc, ◌+◌, ◌*◌, ◌%◌, ◌<◌, Some, None}
 use Rattle.std.proofs.Math.Path.{sym, ap, ap₂}
 use Rattle.std.proofs.Common.{◌∙◌, add-one, arith, drop-cons}
 use Rattle.std.proofs.Math.ListN.{length, get_or, drop, length-map}
@@ -8,7 +8,6 @@ use Rattle.matrix.specs.Matrix.{δ}
 use Rattle.matrix.specs.Range.{tabulate, total}
 use Rattle.letter.specs.declared.Gate.{Gate}
 use Rattle.letter.specs.declared.Gate.TheVariants.{H1, H2, S1, S2, Cz, Cs}
-use Rattle.letter.specs.declared.Letter.TheVariants.{Is, Unknown}
 use Rattle.letter.specs.Gate.{letter, gate_of}
 use Rattle.letter.specs.Laws.Gate.{gate_of_letter}
 use Rattle.gaussian.specs.Gaussian.{◌⊗◌, conj}
@@ -54,11 +53,11 @@ module _ (v : List ℕ) (h : Residues v) where
 
 -- ---- the letters of a list
 
-pub same_gate : (b : ℕ) (g h : Gate) → gate_of b ≡ Is g → b ≡ letter h → g ≡ h
-same_gate b g h e f = let s : Is g ≡ Is h = sym e ∙ ap gate_of f ∙ gate_of_letter h in cc
+pub same_gate : (b : ℕ) (g h : Gate) → gate_of b ≡ Some g → b ≡ letter h → g ≡ h
+same_gate b g h e f = let s : Some g ≡ Some h = sym e ∙ ap gate_of f ∙ gate_of_letter h in cc
 
-pub no_gate : (b : ℕ) (h : Gate) → gate_of b ≡ Unknown → b ≡ letter h → {u v : List ℕ} → u ≡ v
-no_gate b h e f {u} {v} = let s : Unknown ≡ Is h = sym e ∙ ap gate_of f ∙ gate_of_letter h in cc
+pub no_gate : (b : ℕ) (h : Gate) → gate_of b ≡ None → b ≡ letter h → {u v : List ℕ} → u ≡ v
+no_gate b h e f {u} {v} = let s : None ≡ Some h = sym e ∙ ap gate_of f ∙ gate_of_letter h in cc
 
 letter_at_lem : (w : List Gate) (n : ℕ) → n < length w → get_or (map letter w) n 0 ≡ letter (get_or w n H1)
 letter_at_lem [] n h = absurd (omega arith)

@@ -1,6 +1,6 @@
 -- The invariant: the bytes before n are those of the sheet.
 use mathlib.Core.Path.{◌≡◌}
-use Prim.Native.Nat.{ℕ, ◌+◌, ◌-◌, ◌≤◌}
+use Prim.Native.Nat.{ℕ, ◌+◌, ◌-◌}
 use mathlib.Core.List.{List}
 use lib.ListN.{get_or, take}
 use Rattle.matrix.specs.Laws.Range.{Filled}
@@ -11,7 +11,4 @@ abbrev pub byte : ℕ → List ℕ → List ℕ → ℕ → ℕ
 byte count numbers columns i = get_or (sheet_bytes (take count numbers) columns) i 0
 
 abbrev pub invariant-loop-n : goal.invariant-loop-n
-invariant-loop-n l = (l.end ≡ l.count + shortest) × (l.n ≤ l.end) × Filled 0 (byte l.count l.numbers l.columns) l.initial.out l.n l.out
-
-abbrev pub decreases-loop-n : goal.decreases-loop-n
-decreases-loop-n l = l.end - l.n
+invariant-loop-n l = (l.end ≡ l.count + shortest) × Filled 0 (byte l.count l.numbers l.columns) l.initial.out l.n l.out

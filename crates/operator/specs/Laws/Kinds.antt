@@ -1,7 +1,7 @@
 -- "Both kinds of a small operator give one result" (document 02, P10): files whose operators stand for the same matrix, each of either kind and
 -- with an exponent of its own, earn the same refusal, or have the same sheet, count, L, list and sign; and so the calls answer and write the same.
 use Rattle.std.proofs.Math.Bool.{cond}
-use Rattle.std.specs.Prelude.{◌≡◌, ◌≢◌, List, map, ℕ, ◌+◌, ◌*◌, ◌<◌, ◌≤◌, ltb, ℤ, length}
+use Rattle.std.specs.Prelude.{◌≡◌, ◌≢◌, List, map, ℕ, ◌+◌, ◌*◌, ◌<◌, ◌≤◌, ltb, ℤ, length, Result, Ok, Err}
 use Rattle.std.proofs.Math.Path.{refl, ap₂}
 use Rattle.std.proofs.Common.{sym, ap, subst, ◌∙◌, inl, arith}
 use Rattle.std.proofs.Math.Decide.{ℕ_discrete, dec_lt}
@@ -22,8 +22,7 @@ use Rattle.acceptance.specs.Cutting.{file_count, file_loose}
 use Rattle.acceptance.specs.Laws.Acceptance.{accepted, in_form, same_entries}
 use Rattle.sheet_bytes.specs.Laws.Sheet.{same_sheet}
 use Rattle.operator.specs.declared.Cuts.{Cuts}
-use Rattle.operator.specs.declared.Cuts.TheVariants.{Taken, Refused}
-use Rattle.operator.specs.declared.Listed as listed
+use Rattle.operator.specs.declared.Listed.{Listed}
 use Rattle.operator.specs.Promise.{file_sheet, sheet_answer, sheet_buffer, SheetPromise, Handed, GatesPromise}
 use Rattle.operator.specs.Laws.Negative.{same_count, same_loose, same_letters}
 
@@ -59,9 +58,9 @@ module _ (b c : List ℕ) (f : InForm b) (g : InForm c) (h : SameOperator (file_
   one_answer n = elim (ℕ_discrete (file_refusal b) 0) [
     | yes z ↦
         rw (eq-eqb (file_refusal b) 0 z, eq-eqb (file_refusal c) 0 (other z))
-        (ap (λ s. cond (ltb n (length s)) (Refused 6) (Taken (file_count b) (file_loose b))) (one_sheet z)
-        ∙ ap₂ (λ t l. cond (ltb n (length (file_sheet c))) (Refused 6) (Taken t l)) (one_count z) (one_loose z))
-    | no x ↦ rw (ne_eqb (file_refusal b) 0 x, ne_eqb (file_refusal c) 0 (λ z. x (one_refusal ∙ z))) (ap Refused one_refusal)
+        (ap (λ s. cond (ltb n (length s)) (Err 6) (Ok (record { count = file_count b; loose = file_loose b }))) (one_sheet z)
+        ∙ ap₂ (λ t l. cond (ltb n (length (file_sheet c))) (Err 6) (Ok (record { count = t; loose = l }))) (one_count z) (one_loose z))
+    | no x ↦ rw (ne_eqb (file_refusal b) 0 x, ne_eqb (file_refusal c) 0 (λ z. x (one_refusal ∙ z))) (ap Err one_refusal)
   ]
 
   one_buffer : (old : List ℕ) → sheet_buffer b old ≡ sheet_buffer c old
@@ -71,17 +70,17 @@ module _ (b c : List ℕ) (f : InForm b) (g : InForm c) (h : SameOperator (file_
     | no x ↦ rw (ne_eqb (file_refusal b) 0 x, ne_eqb (file_refusal c) 0 (λ z. x (one_refusal ∙ z))) refl
   ]
 
-  pub one_result_sheet : (old new new' : List ℕ) (a a' : Cuts) → SheetPromise b old new a → SheetPromise c old new' a' → (a ≡ a') × (new ≡ new')
+  pub one_result_sheet : (old new new' : List ℕ) (a a' : Result Cuts ℕ) → SheetPromise b old new a → SheetPromise c old new' a' → (a ≡ a') × (new ≡ new')
   one_result_sheet old new new' a a' p q = (p.answer ∙ one_answer (length old) ∙ sym q.answer, p.buffer ∙ one_buffer old ∙ sym q.buffer)
 
   -- ---- the call for a gate list
 
-  module _ (old new new' : List ℕ) (a a' : listed.Listed) (p : GatesPromise b old new a) (q : GatesPromise c old new' a') where
+  module _ (old new new' : List ℕ) (a a' : Result Listed ℕ) (p : GatesPromise b old new a) (q : GatesPromise c old new' a') where
     refused : file_refusal b ≢ 0 → (a ≡ a') × (new ≡ new')
     refused x =
         let (e, n) = p.refused x in
         let (e', n') = q.refused (λ z. x (one_refusal ∙ z)) in
-        (e ∙ ap listed.TheVariants.Refused one_refusal ∙ sym e', n ∙ sym n')
+        (e ∙ ap Err one_refusal ∙ sym e', n ∙ sym n')
 
     no_room : (z : file_refusal b ≡ 0) → length old < 256 * (file_count b + 1) → (a ≡ a') × (new ≡ new')
     no_room z l =

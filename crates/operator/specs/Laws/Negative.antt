@@ -3,7 +3,8 @@ use Rattle.std.specs.Prelude.{◌≡◌, ◌⊎◌, List, ℕ, ◌+◌, ◌%◌,
 use Rattle.std.proofs.Common.{ap, ap₂, ◌∙◌, inl, inr, ⊎_elim, arith}
 use Rattle.matrix.specs.Matrix.{entry, scaled}
 use Rattle.matrix.specs.Operator.{operator, SameUpToSign, Orthogonal, Proper}
-use Rattle.matrix.specs.Array.{Least, least_form}
+use Rattle.matrix.specs.declared.Least.{Least}
+use Rattle.matrix.specs.Array.{least_form}
 use Rattle.matrix.specs.Laws.Operator.{same_operator_trans}
 use Rattle.matrix.specs.Laws.Array.{length_listed, same_least_form}
 use Rattle.clifford.specs.Columns.{column_bytes, signed}

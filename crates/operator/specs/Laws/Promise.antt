@@ -1,5 +1,6 @@
 -- An accepted file's normal form, as the code holds it, and what its sheet and its gate list are.
-use Rattle.std.specs.Prelude.{◌≡◌, refl, true, ◌≢◌, ℕ, ◌+◌, ◌*◌, ◌-◌, ◌<◌, ◌≤◌, length, take, replicate}
+use Rattle.std.specs.Prelude.{◌≡◌, refl, true, ◌≢◌, ℕ, ◌+◌, ◌*◌, ◌-◌, ◌<◌, ◌≤◌, length, take, replicate, Result, Ok, Err}
+use Rattle.refusal.specs.Refusal.{refusal_of}
 use Rattle.std.proofs.Math.Path.{sym, ap, ap₂, subst}
 use Rattle.std.proofs.Common.{◌∙◌, ⊎_elim, arith, take_at}
 use mathlib.Core.List.{List, ◌++◌, map}
@@ -24,12 +25,10 @@ use Rattle.sheet_bytes.specs.Bytes.{shortest, sheet_bytes, sheet, sheet_operator
 use Rattle.sheet_bytes.specs.Laws.Sheet.{length_sheet, sheet_back}
 use Rattle.sheet_bytes.specs.Laws.Count.{sheet_first}
 use Rattle.operator.specs.declared.Cuts.{Cuts}
-use Rattle.operator.specs.declared.Cuts.TheVariants.{Taken, Refused}
-use Rattle.operator.specs.declared.Listed as listed
 use Rattle.acceptance.specs.declared.Cut.{Cut}
 use Rattle.acceptance.specs.Acceptance.{file_refusal}
 use Rattle.acceptance.specs.Cutting.{file_count, file_loose, file_numbers, file_columns, CutOf}
-use Rattle.operator.specs.Promise.{refusal_of, ExactlyRefused, file_sheet, sheet_answer, sheet_buffer, SheetPromise, GatesPromise}
+use Rattle.operator.specs.Promise.{ExactlyRefused, file_sheet, sheet_answer, sheet_buffer, SheetPromise, GatesPromise}
 use Rattle.acceptance.specs.Laws.Acceptance.{accepted, range_most}
 use Rattle.operator.specs.Laws.Exactly.{exactly_refused, exactly_accepted}
 
@@ -61,28 +60,27 @@ pub record Ready (b : List ℕ) (r : Cut) : Type 0 where
   pub bytes : sheet_bytes (take r.count r.numbers) r.columns ≡ file_sheet b
   pub long : length (file_sheet b) ≡ r.count + shortest
 
-pub ready : (b : List ℕ) (r : Cut) → CutOf b r → r.refusal ≡ 0 → Ready b r
+pub ready : (b : List ℕ) (r : Cut) → CutOf b (Ok r) → Ready b r
 unfolding sheet
-ready b r c e =
-    let z : file_refusal b ≡ 0 = sym c.refusal ∙ e in
-    let t : r.count ≡ file_count b = c.count z in
+ready b r (z, c) =
+    let t : r.count ≡ file_count b = c.count in
     let n : take r.count r.numbers ≡ file_numbers b =
-    ap₂ take t (c.numbers z) ∙ take_at (file_numbers b) (replicate (60 - file_count b) 0) (file_count b) (file_cutting b z).exact in
+    ap₂ take t c.numbers ∙ take_at (file_numbers b) (replicate (60 - file_count b) 0) (file_count b) (file_cutting b z).exact in
     record {
       accepted = z;
       count = t;
-      loose = c.loose z;
+      loose = c.loose;
       small = rw t (count_small b z);
       numbers = n;
-      columns = c.columns z;
-      bytes = ap₂ sheet_bytes n (c.columns z);
+      columns = c.columns;
+      bytes = ap₂ sheet_bytes n c.columns;
       long = sheet_length b z ∙ ap (λ x. x + shortest) (sym t);
     }
 
--- ---- the ways out of the two calls, where the code holds r
+-- ---- the ways out of the two calls
 
-module _ (b old : List ℕ) (r : Cut) (c : CutOf b r) where
-  sheet_as : {new : List ℕ} {a : Cuts} → a ≡ sheet_answer b (length old) → new ≡ sheet_buffer b old → ExactlyRefused b (refusal_of a) → SheetPromise b old new a
+module _ (b old : List ℕ) where
+  sheet_as : {new : List ℕ} {a : Result Cuts ℕ} → a ≡ sheet_answer b (length old) → new ≡ sheet_buffer b old → ExactlyRefused b (refusal_of a) → SheetPromise b old new a
   sheet_as p q x = record {
     answer = p;
     buffer = q;
@@ -100,73 +98,78 @@ module _ (b old : List ℕ) (r : Cut) (c : CutOf b r) where
   none : file_refusal b ≡ 0 → ExactlyRefused b 0
   none z = exactly_refused b 0 (sym z)
 
-  still_refused : r.refusal ≢ 0 → file_refusal b ≢ 0
-  still_refused h z = h (c.refusal ∙ z)
+  -- the file is refused
+  module _ (n : ℕ) (c : CutOf b (Err n)) where
+    still_refused : file_refusal b ≢ 0
+    still_refused z = let h = c.1 in omega arith
 
-  pub sheet_refused_lem : r.refusal ≢ 0 → SheetPromise b old old (Refused r.refusal)
-  unfolding sheet_answer sheet_buffer
-  sheet_refused_lem h =
-      let t = ne_eqb (file_refusal b) 0 (still_refused h) in
-      sheet_as (rw t (ap Refused c.refusal)) (rw t) (exactly_refused b r.refusal c.refusal)
+    pub sheet_refused_lem : SheetPromise b old old (Err n)
+    unfolding sheet_answer sheet_buffer
+    sheet_refused_lem =
+        let t = ne_eqb (file_refusal b) 0 still_refused in
+        sheet_as (rw t (ap Err c.0)) (rw t) (exactly_refused b n c.0)
 
-  pub sheet_no_room : r.refusal ≡ 0 → length old < r.count + shortest → SheetPromise b old old (Refused 6)
-  unfolding sheet_answer sheet_buffer
-  sheet_no_room e h =
-      let y = ready b r c e in
-      let t = eq-eqb (file_refusal b) 0 y.accepted in
-      let l = lt-ltb (length old) (length (file_sheet b)) (rw y.long h) in
-      sheet_as (rw (t, l)) (rw (t, l)) (six y.accepted)
+    pub gates_refused : GatesPromise b old old (Err n)
+    gates_refused = record {
+      refused = λ x. (ap Err c.0, refl);
+      no_room = λ z l. absurd (still_refused z);
+      handed = λ z l. absurd (still_refused z);
+      exactly = exactly_refused b n c.0;
+    }
 
-  pub sheet_done : (new : List ℕ) → r.refusal ≡ 0 → r.count + shortest ≤ length old → new ≡ written old (sheet_bytes (take r.count r.numbers) r.columns) → SheetPromise b old new (Taken r.count r.loose)
-  unfolding sheet_answer sheet_buffer
-  sheet_done new e h n =
-      let y = ready b r c e in
-      let t = eq-eqb (file_refusal b) 0 y.accepted in
-      let l = le-ltb (length old) (length (file_sheet b)) (rw y.long h) in
-      sheet_as (rw (t, l) (ap₂ Taken y.count y.loose)) (rw (t, l) (n ∙ ap (written old) y.bytes)) (none y.accepted)
+  -- the code holds r
+  module _ (r : Cut) (c : CutOf b (Ok r)) where
+    pub sheet_no_room : length old < r.count + shortest → SheetPromise b old old (Err 6)
+    unfolding sheet_answer sheet_buffer
+    sheet_no_room h =
+        let y = ready b r c in
+        let t = eq-eqb (file_refusal b) 0 y.accepted in
+        let l = lt-ltb (length old) (length (file_sheet b)) (rw y.long h) in
+        sheet_as (rw (t, l)) (rw (t, l)) (six y.accepted)
 
-  pub gates_refused : r.refusal ≢ 0 → GatesPromise b old old (listed.TheVariants.Refused r.refusal)
-  gates_refused h = record {
-    refused = λ n. (ap listed.TheVariants.Refused c.refusal, refl);
-    no_room = λ z l. absurd (still_refused h z);
-    handed = λ z l. absurd (still_refused h z);
-    exactly = exactly_refused b r.refusal c.refusal;
-  }
+    pub sheet_done : (new : List ℕ) → r.count + shortest ≤ length old → new ≡ written old (sheet_bytes (take r.count r.numbers) r.columns)
+        → SheetPromise b old new (Ok (record { count = r.count; loose = r.loose }))
+    unfolding sheet_answer sheet_buffer
+    sheet_done new h n =
+        let y = ready b r c in
+        let t = eq-eqb (file_refusal b) 0 y.accepted in
+        let l = le-ltb (length old) (length (file_sheet b)) (rw y.long h) in
+        sheet_as (rw (t, l) (ap₂ (λ x z. Ok (record { count = x; loose = z })) y.count y.loose)) (rw (t, l) (n ∙ ap (written old) y.bytes)) (none y.accepted)
 
-  pub gates_no_room : r.refusal ≡ 0 → length old < 256 * (r.count + 1) → GatesPromise b old old (listed.TheVariants.Refused 6)
-  gates_no_room e h =
-      let y = ready b r c e in
-      let t = y.count in
-      record {
-        refused = λ n. absurd (n y.accepted);
-        no_room = λ z l. (refl, refl);
-        handed = λ z l. absurd (omega arith);
-        exactly = six y.accepted;
-      }
+    pub gates_no_room : length old < 256 * (r.count + 1) → GatesPromise b old old (Err 6)
+    gates_no_room h =
+        let y = ready b r c in
+        let t = y.count in
+        record {
+          refused = λ n. absurd (n y.accepted);
+          no_room = λ z l. (refl, refl);
+          handed = λ z l. absurd (omega arith);
+          exactly = six y.accepted;
+        }
 
-  pub gates_done : (new : List ℕ) (n s : ℕ) → r.refusal ≡ 0 → 256 * (r.count + 1) ≤ length old → Written (gate_list (take r.count r.numbers) r.columns) 0 old new n
-      → s ≡ list_sign (take r.count r.numbers) r.columns → GatesPromise b old new (listed.TheVariants.Letters r.count n r.loose s)
-  unfolding written
-  gates_done new n s e h k q =
-      let y = ready b r c e in
-      let t = y.count in
-      let a = (accepted b y.accepted).entries in
-      let g = list_of_lem (file_exponent b) (file_matrix b) a.orthogonal a.proper in
-      let w = list_of (file_exponent b) (file_matrix b) in
-      let v : Written w 0 old new n = subst (λ x. Written x 0 old new n) (ap₂ gate_list y.numbers y.columns) k in
-      let f : sign_of_list (file_exponent b) (file_matrix b) ≡ s = sym (q ∙ ap₂ list_sign y.numbers y.columns) in
-      record {
-        refused = λ n. absurd (n y.accepted);
-        no_room = λ z l. absurd (omega arith);
-        handed = λ z l. (
-          w,
-          s,
-          record {
-            buffer = v.buffer ∙ ap (λ x. map letter w ++ drop x old) (zero-add (length w) ∙ sym (length-map w letter));
-            answer = let e = v.next ∙ zero-add (length w) in cc (t, e, y.loose);
-            list = subst (ListFor (file_operator b) (file_count b) w) f g;
-            form_list = refl;
-          },
-        );
-        exactly = none y.accepted;
-      }
+    pub gates_done : (new : List ℕ) (n s : ℕ) → 256 * (r.count + 1) ≤ length old → Written (gate_list (take r.count r.numbers) r.columns) 0 old new n
+        → s ≡ list_sign (take r.count r.numbers) r.columns → GatesPromise b old new (Ok (record { count = r.count; letters = n; loose = r.loose; sign = s }))
+    unfolding written
+    gates_done new n s h k q =
+        let y = ready b r c in
+        let t = y.count in
+        let a = (accepted b y.accepted).entries in
+        let g = list_of_lem (file_exponent b) (file_matrix b) a.orthogonal a.proper in
+        let w = list_of (file_exponent b) (file_matrix b) in
+        let v : Written w 0 old new n = subst (λ x. Written x 0 old new n) (ap₂ gate_list y.numbers y.columns) k in
+        let f : sign_of_list (file_exponent b) (file_matrix b) ≡ s = sym (q ∙ ap₂ list_sign y.numbers y.columns) in
+        record {
+          refused = λ n. absurd (n y.accepted);
+          no_room = λ z l. absurd (omega arith);
+          handed = λ z l. (
+            w,
+            s,
+            record {
+              buffer = v.buffer ∙ ap (λ x. map letter w ++ drop x old) (zero-add (length w) ∙ sym (length-map w letter));
+              answer = let e = v.next ∙ zero-add (length w) in cc (t, e, y.loose);
+              list = subst (ListFor (file_operator b) (file_count b) w) f g;
+              form_list = refl;
+            },
+          );
+          exactly = none y.accepted;
+        }

@@ -6,7 +6,7 @@ use Rattle.text.specs.Laws.Text.{line_length}
 use Rattle.order_states.proofs.order_line.Goals as goal
 
 pub write_order-requires : goal.write_order-requires
-write_order-requires c = let l = line_length order_word (c.in-Count.states ∷ []) in omega arith
+write_order-requires c = let l = line_length order_word (c.in-Ok.states ∷ []) in omega arith
 
 pub write_refused-requires : goal.write_refused-requires
-write_refused-requires c = let l = line_length refused_word (c.in-Refused.refusal ∷ []) in omega arith
+write_refused-requires c = let l = line_length refused_word (c.number.result ∷ []) in omega arith

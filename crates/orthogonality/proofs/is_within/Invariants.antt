@@ -1,5 +1,5 @@
 use mathlib.Core.Path.{◌≡◌}
-use Prim.Native.Nat.{ℕ, ◌-◌, ◌/◌, ◌%◌, ◌^◌, ◌≤◌}
+use Prim.Native.Nat.{ℕ, ◌-◌, ◌/◌, ◌%◌, ◌^◌}
 use mathlib.Core.Bool.{Bool}
 use mathlib.Core.List.{List}
 use lib.IntN.{ℤ, pos, ◌*ℤ◌}
@@ -15,8 +15,5 @@ square_at m n = entry m (n / 6) (n % 6) *ℤ entry m (n / 6) (n % 6)
 abbrev pub within_at : ℕ → List ℤ → ℕ → Bool
 within_at k m n = le_z (square_at m n) (pos (2 ^ k))
 
-abbrev pub invariant-loop-n : goal.invariant-loop-n
-invariant-loop-n l = (l.n ≤ 36) × (l.limit ≡ pos (2 ^ l.k)) × (is_within l.k (entry l.m) ≡ every_from (within_at l.k l.m) l.n (36 - l.n))
-
-abbrev pub decreases-loop-n : goal.decreases-loop-n
-decreases-loop-n l = 36 - l.n
+abbrev pub invariant-loop-x : goal.invariant-loop-x
+invariant-loop-x l = (l.limit ≡ pos (2 ^ l.k)) × (is_within l.k (entry l.fn.m) ≡ every_from (within_at l.k l.fn.m) l.x-index (36 - l.x-index))

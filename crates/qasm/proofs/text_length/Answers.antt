@@ -1,15 +1,13 @@
+use Rattle.std.specs.Prelude.{Option, Some, None, Err}
 use mathlib.Core.Path.{◌≡◌, sym, ap, ◌∙◌}
 use mathlib.Core.List.{List, [], ◌∷◌, ◌++◌, flatten}
-use Prim.Native.Nat.{ℕ, ◌+◌, ◌-◌, ◌<◌}
+use Prim.Native.Nat.{ℕ, ◌+◌, ◌-◌, ◌≤◌, ◌<◌}
 use native.Mathlib.Omega.{arith}
 use lib.ListN.{length, get_or, drop, length-append}
 use lib.Seq.{drop-length}
 use Rattle.letter.specs.declared.Gate.{Gate}
-use Rattle.letter.specs.declared.Letter.{Letter}
-use Rattle.letter.specs.declared.Letter.TheVariants.{Is, Unknown}
 use Rattle.letter.specs.Gate.{gate_of}
 use Rattle.gate.specs.Reading.{gates}
-use Rattle.file.specs.declared.Wrote.TheVariants.{Refused}
 use Rattle.qasm.specs.Text.{first_lines, statement as line, body, text_of, first_length}
 use Rattle.qasm.specs.Reading.{before, letters_of}
 use Rattle.qasm.specs.Promise.{size}
@@ -20,7 +18,6 @@ use Rattle.qasm.proofs.text_length.Goals as goal
 start : (bs : List ℕ) → Going bs first_length (length bs)
 unfolding letters_of text_of body
 start bs = record {
-  inside = omega arith;
   small = omega arith;
   list = [];
   is = ap letters_of (drop-length bs);
@@ -28,23 +25,20 @@ start bs = record {
 }
 
 -- a turn at the letter i - 1
-module _ (bs : List ℕ) (n i : ℕ) (s : Going bs n i) (h : 0 < i) where
-  here : {l : Letter} → gate_of (get_or bs (i - 1) 0) ≡ l → letters_of (drop (i - 1) bs) ≡ before l (gates s.list)
+module _ (bs : List ℕ) (n i : ℕ) (s : Going bs n i) (h : 0 < i) (m : i ≤ length bs) where
+  here : {l : Option Gate} → gate_of (get_or bs (i - 1) 0) ≡ l → letters_of (drop (i - 1) bs) ≡ before l (gates s.list)
   here {l} e =
-      let k = s.inside in
       let j : i - 1 + 1 ≡ i = omega arith in
       letters_next bs (i - 1) (omega arith) ∙ ap (λ k. before (gate_of (get_or bs (i - 1) 0)) (letters_of (drop k bs))) j ∙ ap (before (gate_of (get_or bs (i - 1) 0))) s.is ∙ ap (λ l. before l (gates s.list)) e
 
-  turn : (g : Gate) (k : ℕ) → gate_of (get_or bs (i - 1) 0) ≡ Is g → k ≡ length (line g) → Going bs (n + k) (i - 1)
+  turn : (g : Gate) (k : ℕ) → gate_of (get_or bs (i - 1) 0) ≡ Some g → k ≡ length (line g) → Going bs (n + k) (i - 1)
   unfolding text_of body
   turn g k e l =
-      let m = s.inside in
       let r = s.small in
       let b = statement_long g in
       let f = flatten first_lines in
       let w = body s.list in
       record {
-        inside = omega arith;
         small = omega arith;
         list = g ∷ s.list;
         is = here e;
@@ -56,7 +50,7 @@ module _ (bs : List ℕ) (n i : ℕ) (s : Going bs n i) (h : 0 < i) where
             omega arith;
       }
 
-  unknown : gate_of (get_or bs (i - 1) 0) ≡ Unknown → Refused 8 ≡ size text_of (letters_of bs)
+  unknown : gate_of (get_or bs (i - 1) 0) ≡ None → Err 8 ≡ size text_of (letters_of bs)
   unknown e = sym (ap (size text_of) (letters_unknown bs (i - 1) (here e)))
 
 pub loop-i-init : goal.loop-i-init
@@ -64,8 +58,8 @@ loop-i-init c = start _
 
 pub loop-i-preserved : goal.loop-i-preserved
 loop-i-preserved c =
-    turn _ _ _ c.loop-i.invariant (omega arith) _ _ (sym c.gate_of.ensures ∙ c.in-Is.is) c.statement_length-n.ensures
+    turn _ _ _ c.loop-i.invariant (omega arith) (omega arith) _ _ (sym c.gate_of.ensures ∙ c.in-Some.is) c.statement_length-n.ensures
 
-pub returns-in-Unknown : goal.returns-in-Unknown
-returns-in-Unknown c =
-    unknown _ _ _ c.loop-i.invariant (omega arith) (sym c.gate_of.ensures ∙ c.in-Unknown.is)
+pub returns-in-None : goal.returns-in-None
+returns-in-None c =
+    unknown _ _ _ c.loop-i.invariant (omega arith) (omega arith) (sym c.gate_of.ensures ∙ c.in-None.is)

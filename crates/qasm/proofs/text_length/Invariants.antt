@@ -10,7 +10,6 @@ use Rattle.qasm.specs.Reading.{letters_of}
 use Rattle.qasm.proofs.text_length.Given as goal
 
 pub record Going (bs : List ℕ) (n i : ℕ) : Type 0 where
-  pub inside : i ≤ length bs
   pub small : n + longest_statement * i ≤ first_length + longest_statement * length bs
   pub list : List Gate
   pub is : letters_of (drop i bs) ≡ gates list
@@ -18,6 +17,3 @@ pub record Going (bs : List ℕ) (n i : ℕ) : Type 0 where
 
 abbrev pub invariant-loop-i : goal.invariant-loop-i
 invariant-loop-i l = Going l.letters l.n l.i
-
-abbrev pub decreases-loop-i : goal.decreases-loop-i
-decreases-loop-i l = l.i

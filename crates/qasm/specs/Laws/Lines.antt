@@ -1,12 +1,11 @@
 -- The lines of a text.
-use Rattle.std.specs.Prelude.{◌≡◌, refl, Bool, true, false, cond, ◌||◌, ◌⊎◌, ℕ, eqb}
+use Rattle.std.specs.Prelude.{◌≡◌, refl, Bool, true, false, cond, ◌||◌, ◌⊎◌, ℕ, eqb, Some}
 use Rattle.std.proofs.Common.{ap, ap₂, subst, ◌∙◌, inl, inr, arith}
 use mathlib.Core.List.{List, [], ◌∷◌, ◌++◌, flatten}
 use Rattle.matrix.specs.List.{same_list}
 use Rattle.matrix.specs.Laws.Test.{same_list_lem}
 use Rattle.letter.specs.declared.Gate.{Gate}
 use Rattle.letter.specs.declared.Gate.TheVariants.{H1, H2, S1, S2, Cz, Cs}
-use Rattle.letter.specs.declared.Letter.TheVariants.{Is}
 use Rattle.gate.specs.Reading.{Reading, gates, refusal}
 use Rattle.qasm.specs.Text.{line_feed, version_line, include_line, register_line, first_lines, statement, reversed}
 use Rattle.qasm.specs.Reading.{beginning, lines, is_statement, gates_of_table, look_up, statement_of, statements, after_lines}
@@ -68,7 +67,7 @@ reversed_line S2 bs = refl
 reversed_line Cz bs = refl
 reversed_line Cs bs = refl
 
-pub statement_of_lem : (g : Gate) → statement_of (statement g) ≡ Is g
+pub statement_of_lem : (g : Gate) → statement_of (statement g) ≡ Some g
 unfolding statement_of
 statement_of_lem H1 = refl
 statement_of_lem H2 = refl
@@ -77,7 +76,7 @@ statement_of_lem S2 = refl
 statement_of_lem Cz = refl
 statement_of_lem Cs = refl
 
-pub reversed_of : (g : Gate) → statement_of (reversed g) ≡ Is g
+pub reversed_of : (g : Gate) → statement_of (reversed g) ≡ Some g
 unfolding statement_of
 reversed_of H1 = refl
 reversed_of H2 = refl
@@ -94,15 +93,15 @@ either l m n = go (same_list l m) refl
     go true t e = inl (same_list_lem l m t)
     go false t e = inr (same_list_lem l n e)
 
-looked_up : (gs : List Gate) (l : List ℕ) (g : Gate) → look_up gs l ≡ Is g → is_statement l g ≡ true
+looked_up : (gs : List Gate) (l : List ℕ) (g : Gate) → look_up gs l ≡ Some g → is_statement l g ≡ true
 looked_up [] l g e = let z : ◌≡◌ {A = ℕ} 0 1 = cc in absurd (omega arith)
 looked_up (h ∷ gs) l g e = go (is_statement l h) refl (looked_up gs l g) e
   where
-    go : (t : Bool) → is_statement l h ≡ t → (look_up gs l ≡ Is g → is_statement l g ≡ true) → cond t (Is h) (look_up gs l) ≡ Is g → is_statement l g ≡ true
+    go : (t : Bool) → is_statement l h ≡ t → (look_up gs l ≡ Some g → is_statement l g ≡ true) → cond t (Some h) (look_up gs l) ≡ Some g → is_statement l g ≡ true
     go true t f e = let s : h ≡ g = cc in subst (λ k. is_statement l k ≡ true) s t
     go false t f e = f e
 
-pub forms : (l : List ℕ) (g : Gate) → statement_of l ≡ Is g → (l ≡ statement g) ⊎ (l ≡ reversed g)
+pub forms : (l : List ℕ) (g : Gate) → statement_of l ≡ Some g → (l ≡ statement g) ⊎ (l ≡ reversed g)
 unfolding statement_of
 forms l g e = either l (statement g) (reversed g) (looked_up gates_of_table l g e)
 

@@ -1,12 +1,10 @@
 -- What a text means is what its letters multiply to.
-use Rattle.std.specs.Prelude.{◌≡◌, refl, List, [], ◌∷◌, ◌++◌, ℕ, length, drop}
+use Rattle.std.specs.Prelude.{◌≡◌, refl, List, [], ◌∷◌, ◌++◌, ℕ, length, drop, Option, Some, None}
 use Rattle.std.proofs.Common.{ap, subst, sym, arith}
 use Rattle.matrix.specs.Operator.{Operator, times_operator, identity, SameOperator}
 use Rattle.matrix.specs.Laws.Operator.{same_operator_refl, same_operator_sym, same_operator_trans, times_same, times_assoc}
 use Rattle.matrix.specs.Laws.Inverse.{identity_times, times_identity}
 use Rattle.letter.specs.declared.Gate.{Gate}
-use Rattle.letter.specs.declared.Letter.{Letter}
-use Rattle.letter.specs.declared.Letter.TheVariants.{Is, Unknown}
 use Rattle.gate.specs.Product.{image, product_of, MultipliesTo}
 use Rattle.gate.specs.Reading.{Reading, gates, refusal}
 use Rattle.gate.specs.Laws.Stretch.{append_gate}
@@ -23,10 +21,10 @@ acted_product [] w e A =
     subst (λ v. SameOperator A (times_operator (product_of v) A)) (sym s) (same_operator_sym (identity_times A))
 acted_product (l ∷ ls) w e A = go (statement_of l) (statements ls) (acted_product ls) e
   where
-    go : (x : Letter) (r : Reading) → ((v : List Gate) → r ≡ gates v → (B : Operator) → SameOperator (acted B ls) (times_operator (product_of v) B)) → earlier x r ≡ gates w → SameOperator (acted (acting x A) ls) (times_operator (product_of w) A)
-    go Unknown r f e = let z : ◌≡◌ {A = ℕ} 0 1 = cc in absurd (omega arith)
-    go (Is g) (refusal n) f e = let z : ◌≡◌ {A = ℕ} 0 1 = cc in absurd (omega arith)
-    go (Is g) (gates v) f e =
+    go : (x : Option Gate) (r : Reading) → ((v : List Gate) → r ≡ gates v → (B : Operator) → SameOperator (acted B ls) (times_operator (product_of v) B)) → earlier x r ≡ gates w → SameOperator (acted (acting x A) ls) (times_operator (product_of w) A)
+    go None r f e = let z : ◌≡◌ {A = ℕ} 0 1 = cc in absurd (omega arith)
+    go (Some g) (refusal n) f e = let z : ◌≡◌ {A = ℕ} 0 1 = cc in absurd (omega arith)
+    go (Some g) (gates v) f e =
         let t : v ++ g ∷ [] ≡ w = cc in
         subst (λ u. SameOperator (acted (times_operator (image g) A) ls) (times_operator (product_of u) A)) t
         (same_operator_trans (f v refl (times_operator (image g) A))

@@ -1,10 +1,8 @@
 -- Which refusals the calls have, and how long what they write is.
-use Rattle.std.specs.Prelude.{◌≡◌, Bool, true, false, cond, ◌⊎◌, List, [], ◌∷◌, map, ℕ, ◌≤◌, ltb, length}
+use Rattle.std.specs.Prelude.{◌≡◌, Bool, true, false, cond, ◌⊎◌, List, [], ◌∷◌, map, ℕ, ◌≤◌, ltb, length, Option, Some, None}
 use Rattle.std.proofs.Common.{◌∙◌, inl, inr, arith}
 use Rattle.std.proofs.lemmas.List.{length-map}
 use Rattle.letter.specs.declared.Gate.{Gate}
-use Rattle.letter.specs.declared.Letter.{Letter}
-use Rattle.letter.specs.declared.Letter.TheVariants.{Is, Unknown}
 use Rattle.letter.specs.Gate.{letter, gate_of}
 use Rattle.gate.specs.Reading.{Reading, gates, refusal, largest_list}
 use Rattle.qasm.specs.Text.{first_lines, text_of, longest_text}
@@ -20,10 +18,10 @@ unfolding letters_of
 letters_refused_lem [] n e = let z : ◌≡◌ {A = ℕ} 0 1 = cc in absurd (omega arith)
 letters_refused_lem (b ∷ bs) n e = go (gate_of b) (letters_of bs) (letters_refused_lem bs n) e
   where
-    go : (l : Letter) (r : Reading) → (r ≡ refusal n → n ≡ 8) → before l r ≡ refusal n → n ≡ 8
-    go Unknown r f e = cc
-    go (Is g) (gates v) f e = let z : ◌≡◌ {A = ℕ} 0 1 = cc in absurd (omega arith)
-    go (Is g) (refusal k) f e = f e
+    go : (l : Option Gate) (r : Reading) → (r ≡ refusal n → n ≡ 8) → before l r ≡ refusal n → n ≡ 8
+    go None r f e = cc
+    go (Some g) (gates v) f e = let z : ◌≡◌ {A = ℕ} 0 1 = cc in absurd (omega arith)
+    go (Some g) (refusal k) f e = f e
 
 -- a list is refused with 7 or with 8
 pub writing_refused : (bs : List ℕ) (n : ℕ) → read_letters bs ≡ refusal n → (n ≡ 7) ⊎ (n ≡ 8)
@@ -44,10 +42,10 @@ unfolding statements
 statements_refused [] n e = let z : ◌≡◌ {A = ℕ} 0 1 = cc in absurd (omega arith)
 statements_refused (l ∷ ls) n e = go (statement_of l) (statements ls) (statements_refused ls n) e
   where
-    go : (x : Letter) (r : Reading) → (r ≡ refusal n → n ≡ 23) → earlier x r ≡ refusal n → n ≡ 23
-    go Unknown r f e = cc
-    go (Is g) (gates v) f e = let z : ◌≡◌ {A = ℕ} 0 1 = cc in absurd (omega arith)
-    go (Is g) (refusal k) f e = f e
+    go : (x : Option Gate) (r : Reading) → (r ≡ refusal n → n ≡ 23) → earlier x r ≡ refusal n → n ≡ 23
+    go None r f e = cc
+    go (Some g) (gates v) f e = let z : ◌≡◌ {A = ℕ} 0 1 = cc in absurd (omega arith)
+    go (Some g) (refusal k) f e = f e
 
 text_refused_lem : (bs : List ℕ) (n : ℕ) → read_text bs ≡ refusal n → n ≡ 23
 unfolding read_text

@@ -1,13 +1,11 @@
 -- Lists and their texts: what is written and read is the same list, and what is read and written is the same text but for the order of qubits.
-use Rattle.std.specs.Prelude.{◌≡◌, refl, Bool, true, false, cond, ◌⊎◌, ℕ, ◌≤◌, ltb, length}
+use Rattle.std.specs.Prelude.{◌≡◌, refl, Bool, true, false, cond, ◌⊎◌, ℕ, ◌≤◌, ltb, length, Option, Some, None}
 use Rattle.std.proofs.Common.{sym, ap, ap₂, ◌∙◌, inl, inr, arith, le-ltb, ltb-false}
 use mathlib.Core.List.{List, [], ◌∷◌, ◌++◌, flatten, map, append_assoc, append-nil}
 use Rattle.std.proofs.lemmas.List.{length-map}
 use Rattle.std.proofs.Math.Seq.{append_snoc}
 use Rattle.letter.specs.declared.Gate.{Gate}
 use Rattle.letter.specs.declared.Gate.TheVariants.{H1, H2, S1, S2, Cz, Cs}
-use Rattle.letter.specs.declared.Letter.{Letter}
-use Rattle.letter.specs.declared.Letter.TheVariants.{Is, Unknown}
 use Rattle.letter.specs.Gate.{letter, gate_of}
 use Rattle.letter.specs.Laws.Gate.{gate_of_letter, letter_of_gate}
 use Rattle.gate.specs.Reading.{Reading, gates, refusal, largest_list}
@@ -52,7 +50,7 @@ normal_forms S2 = (refl, refl)
 normal_forms Cz = (refl, refl)
 normal_forms Cs = (refl, refl)
 
-normal_statement : (l : List ℕ) (g : Gate) → statement_of l ≡ Is g → normal l ≡ statement g
+normal_statement : (l : List ℕ) (g : Gate) → statement_of l ≡ Some g → normal l ≡ statement g
 normal_statement l g e = go (forms l g e)
   where
     go : (l ≡ statement g) ⊎ (l ≡ reversed g) → normal l ≡ statement g
@@ -69,10 +67,10 @@ unfolding statements body flatten
 body_lines [] w e = let s : w ≡ [] = cc in rw s
 body_lines (l ∷ ls) w e = go (statement_of l) refl (statements ls) (body_lines ls) e
   where
-    go : (x : Letter) → statement_of l ≡ x → (r : Reading) → ((v : List Gate) → r ≡ gates v → body v ≡ flatten (map normal ls)) → earlier x r ≡ gates w → body w ≡ normal l ++ flatten (map normal ls)
-    go Unknown s r f e = let z : ◌≡◌ {A = ℕ} 0 1 = cc in absurd (omega arith)
-    go (Is g) s (refusal n) f e = let z : ◌≡◌ {A = ℕ} 0 1 = cc in absurd (omega arith)
-    go (Is g) s (gates v) f e =
+    go : (x : Option Gate) → statement_of l ≡ x → (r : Reading) → ((v : List Gate) → r ≡ gates v → body v ≡ flatten (map normal ls)) → earlier x r ≡ gates w → body w ≡ normal l ++ flatten (map normal ls)
+    go None s r f e = let z : ◌≡◌ {A = ℕ} 0 1 = cc in absurd (omega arith)
+    go (Some g) s (refusal n) f e = let z : ◌≡◌ {A = ℕ} 0 1 = cc in absurd (omega arith)
+    go (Some g) s (gates v) f e =
         let t : w ≡ v ++ g ∷ [] = cc in
         ap body t ∙ body_last v g ∙ ap₂ ◌++◌ (sym (normal_statement l g s)) (f v refl)
 
@@ -117,10 +115,10 @@ unfolding letters_of
 of_letters [] w e = let s : w ≡ [] = cc in rw s
 of_letters (b ∷ bs) w e = go (gate_of b) refl (letters_of bs) (of_letters bs) e
   where
-    go : (x : Letter) → gate_of b ≡ x → (r : Reading) → ((v : List Gate) → r ≡ gates v → bs ≡ map letter v) → before x r ≡ gates w → b ∷ bs ≡ map letter w
-    go Unknown q r f e = let z : ◌≡◌ {A = ℕ} 0 1 = cc in absurd (omega arith)
-    go (Is g) q (refusal n) f e = let z : ◌≡◌ {A = ℕ} 0 1 = cc in absurd (omega arith)
-    go (Is g) q (gates v) f e = let t : w ≡ g ∷ v = cc in rw t (ap₂ ◌∷◌ (letter_of_gate b g q) (f v refl))
+    go : (x : Option Gate) → gate_of b ≡ x → (r : Reading) → ((v : List Gate) → r ≡ gates v → bs ≡ map letter v) → before x r ≡ gates w → b ∷ bs ≡ map letter w
+    go None q r f e = let z : ◌≡◌ {A = ℕ} 0 1 = cc in absurd (omega arith)
+    go (Some g) q (refusal n) f e = let z : ◌≡◌ {A = ℕ} 0 1 = cc in absurd (omega arith)
+    go (Some g) q (gates v) f e = let t : w ≡ g ∷ v = cc in rw t (ap₂ ◌∷◌ (letter_of_gate b g q) (f v refl))
 
 -- the letters of a list that is short enough are taken, and no other bytes are
 pub letters_taken : (w : List Gate) → length w ≤ largest_list → read_letters (map letter w) ≡ gates w

@@ -1,11 +1,9 @@
 -- The text of a list, from its letters.
-use Rattle.std.specs.Prelude.{◌≡◌, refl, ℕ, zero, suc, ◌+◌, ◌*◌, ◌≤◌, ◌<◌, length, get_or, drop}
+use Rattle.std.specs.Prelude.{◌≡◌, refl, ℕ, zero, suc, ◌+◌, ◌*◌, ◌≤◌, ◌<◌, length, get_or, drop, Option, Some, None}
 use Rattle.std.proofs.Common.{sym, ap, ◌∙◌, add-one, arith, length-append, drop-cons, lt-ltb, le-ltb}
 use mathlib.Core.List.{List, [], ◌∷◌, ◌++◌, flatten}
 use Rattle.letter.specs.declared.Gate.{Gate}
 use Rattle.letter.specs.declared.Gate.TheVariants.{H1, H2, S1, S2, Cz, Cs}
-use Rattle.letter.specs.declared.Letter.{Letter}
-use Rattle.letter.specs.declared.Letter.TheVariants.{Is, Unknown}
 use Rattle.letter.specs.Gate.{gate_of}
 use Rattle.gate.specs.Reading.{Reading, gates, refusal, largest_list}
 use Rattle.qasm.specs.Text.{version_line, include_line, register_line, first_lines, first_length, statement, longest_statement, body, text_of}
@@ -42,10 +40,10 @@ unfolding letters_of body body_of
 body_of_lem [] w e = let s : w ≡ [] = cc in rw s
 body_of_lem (b ∷ bs) w e = go (gate_of b) (letters_of bs) (body_of_lem bs) e
   where
-    go : (l : Letter) (r : Reading) → ((v : List Gate) → r ≡ gates v → body_of bs ≡ body v) → before l r ≡ gates w → body_of bs ++ line_of l ≡ body w
-    go Unknown r f e = let z : ◌≡◌ {A = ℕ} 0 1 = cc in absurd (omega arith)
-    go (Is g) (refusal n) f e = let z : ◌≡◌ {A = ℕ} 0 1 = cc in absurd (omega arith)
-    go (Is g) (gates v) f e = let t : w ≡ g ∷ v = cc in rw t (ap (λ x. x ++ statement g) (f v refl))
+    go : (l : Option Gate) (r : Reading) → ((v : List Gate) → r ≡ gates v → body_of bs ≡ body v) → before l r ≡ gates w → body_of bs ++ line_of l ≡ body w
+    go None r f e = let z : ◌≡◌ {A = ℕ} 0 1 = cc in absurd (omega arith)
+    go (Some g) (refusal n) f e = let z : ◌≡◌ {A = ℕ} 0 1 = cc in absurd (omega arith)
+    go (Some g) (gates v) f e = let t : w ≡ g ∷ v = cc in rw t (ap (λ x. x ++ statement g) (f v refl))
 
 -- ---- from the last letter to the first
 
@@ -61,9 +59,9 @@ letters_unknown [] (suc i) e = e
 letters_unknown (b ∷ bs) zero e = e
 letters_unknown (b ∷ bs) (suc i) e = go (gate_of b) (letters_unknown bs i e)
   where
-    go : (l : Letter) → letters_of bs ≡ refusal 8 → before l (letters_of bs) ≡ refusal 8
-    go Unknown f = refl
-    go (Is g) f = ap (before (Is g)) f
+    go : (l : Option Gate) → letters_of bs ≡ refusal 8 → before l (letters_of bs) ≡ refusal 8
+    go None f = refl
+    go (Some g) f = ap (before (Some g)) f
 
 pub body_next : (bs : List ℕ) (i : ℕ) → i < length bs → body_of (drop i bs) ≡ body_of (drop (i + 1) bs) ++ line_of (gate_of (get_or bs i 0))
 unfolding body_of

@@ -1,4 +1,5 @@
 -- Each way out is a case of the definitions.
+use Rattle.std.specs.Prelude.{Ok, Err}
 use mathlib.Core.Path.{◌≡◌, sym, ap, subst, ◌∙◌}
 use mathlib.Core.Bool.{true}
 use mathlib.Core.List.{List, flatten, map}
@@ -6,7 +7,6 @@ use mathlib.Core.Logic.{◌≢◌}
 use Prim.Native.Nat.{ℕ, ◌≤◌, ◌<◌}
 use native.Mathlib.Omega.{arith}
 use lib.ListN.{length, length-map}
-use Rattle.file.specs.declared.Wrote.TheVariants.{Bytes, Refused}
 use Rattle.file.specs.File.{written}
 use Rattle.letter.specs.Gate.{letter}
 use Rattle.gate.specs.Reading.{gates, largest_list}
@@ -29,26 +29,26 @@ module _ (bs : List ℕ) (first : ℕ) (e : first ≡ after_line bs 0 (flatten f
     from : StatementsFrom bs first_length r
     from = subst (λ k. StatementsFrom bs k r) first_is s
 
-    line_refused : r.end < length bs → LettersPromise bs old old (Refused 23)
+    line_refused : r.end < length bs → LettersPromise bs old old (Err 23)
     line_refused h = letters_promise (refused (map letter) old (other_line bs begun r from h))
 
     module _ (h : length bs ≤ r.end) where
-      many_refused : largest_list < r.count → LettersPromise bs old old (Refused 7)
+      many_refused : largest_list < r.count → LettersPromise bs old old (Err 7)
       many_refused l = letters_promise (refused (map letter) old (too_many bs begun r from h l))
 
       count_is : r.count ≡ length (map letter s.list)
       count_is = s.count ∙ sym (length-map s.list letter)
 
-      short_refused : r.count ≤ largest_list → length old < r.count → LettersPromise bs old old (Refused 6)
+      short_refused : r.count ≤ largest_list → length old < r.count → LettersPromise bs old old (Err 6)
       short_refused l k = letters_promise (no_room (map letter) old (in_limit bs begun r from h l) (from.count ∙ sym (length-map from.list letter)) k)
 
       read : read_from bs first ≡ gates s.list
       read = ended bs first r s h
 
-      sized_is : Bytes r.count ≡ size (map letter) (read_from bs first)
-      sized_is = ap Bytes count_is ∙ sym (ap (size (map letter)) read)
+      sized_is : Ok r.count ≡ size (map letter) (read_from bs first)
+      sized_is = ap Ok count_is ∙ sym (ap (size (map letter)) read)
 
-      done : {new : List ℕ} → r.count ≤ largest_list → r.count ≤ length old → new ≡ written old (map letter (list_in (read_from bs first))) → LettersPromise bs old new (Bytes r.count)
+      done : {new : List ℕ} → r.count ≤ largest_list → r.count ≤ length old → new ≡ written old (map letter (list_in (read_from bs first))) → LettersPromise bs old new (Ok r.count)
       done l k b =
           letters_promise (room (map letter) old (in_limit bs begun r from h l) (from.count ∙ sym (length-map from.list letter)) k
           (b ∙ ap (λ x. written old (map letter (list_in x))) (ap (read_from bs) first_is ∙ ended bs first_length r from h)))

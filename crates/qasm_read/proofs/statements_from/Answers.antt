@@ -1,11 +1,11 @@
-use mathlib.Core.Path.{sym, ap, subst, ◌∙◌}
+use mathlib.Core.Path.{sym, ap, ◌∙◌}
 use mathlib.Core.List.{List, ◌∷◌, ◌++◌, append_assoc}
 use Prim.Native.Nat.{ℕ, ◌+◌}
 use native.Mathlib.Omega.{arith}
 use lib.ListN.{drop, length-append}
 use Rattle.letter.specs.declared.Gate.{Gate}
 use Rattle.qasm.specs.Reading.{lines, statements}
-use Rattle.qasm_read.specs.Statements.{StatementAt, LineAt, followed}
+use Rattle.qasm_read.specs.Statements.{StatementAt, followed}
 use Rattle.qasm_read.specs.Laws.Statements.{followed_earlier}
 use Rattle.qasm_read.proofs.statements_from.Invariants.{Passed}
 use Rattle.qasm_read.proofs.statements_from.Goals as goal
@@ -38,4 +38,4 @@ one_passed bs at count end p g next s =
 
 pub loop-end-preserved : goal.loop-end-preserved
 loop-end-preserved c =
-    one_passed _ _ _ _ c.loop-end.invariant _ _ (subst (LineAt _ _) c.in-Statement.is c.statement_at.ensures)
+    one_passed _ _ _ _ c.loop-end.invariant _ _ c.in-Some.ensures

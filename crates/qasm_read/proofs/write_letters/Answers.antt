@@ -1,22 +1,22 @@
+use Rattle.std.specs.Prelude.{Ok}
 use mathlib.Core.Path.{◌≡◌, sym, subst}
 use mathlib.Core.List.{List, map}
 use Prim.Native.Nat.{ℕ, ◌≤◌}
 use native.Mathlib.Omega.{arith}
 use lib.ListN.{length}
-use Rattle.file.specs.declared.Wrote.TheVariants.{Bytes}
 use Rattle.letter.specs.Gate.{letter}
 use Rattle.qasm.specs.Promise.{size}
-use Rattle.qasm_read.specs.Statements.{LineAt, read_from, list_in}
+use Rattle.qasm_read.specs.Statements.{read_from, list_in}
 use Rattle.qasm_read.specs.Laws.Letters.{list_in_lem, Going, start, turn, never, finished}
 use Rattle.qasm_read.proofs.write_letters.Goals as goal
 
-begun : (bs : List ℕ) (at n : ℕ) (old : List ℕ) → at ≤ length bs → Bytes n ≡ size (map letter) (read_from bs at) → Going bs (list_in (read_from bs at)) old old at n
+begun : (bs : List ℕ) (at n : ℕ) (old : List ℕ) → at ≤ length bs → Ok n ≡ size (map letter) (read_from bs at) → Going bs (list_in (read_from bs at)) old old at n
 begun bs at n old h e =
     let (r, l) = list_in_lem (read_from bs at) n e in
     subst (Going bs (list_in (read_from bs at)) old old at) (sym l) (start bs (list_in (read_from bs at)) old at h r)
 
 -- the letters have room
-fits : (bs old : List ℕ) (at n : ℕ) → (at ≤ length bs) × (Bytes n ≡ size (map letter) (read_from bs at)) × (n ≤ length old) → length (list_in (read_from bs at)) ≤ length old
+fits : (bs old : List ℕ) (at n : ℕ) → (at ≤ length bs) × (Ok n ≡ size (map letter) (read_from bs at)) × (n ≤ length old) → length (list_in (read_from bs at)) ≤ length old
 fits bs old at n p = let (r, l) = list_in_lem (read_from bs at) n p.1 in let f = p.2 in omega arith
 
 pub loop-next-init : goal.loop-next-init
@@ -27,12 +27,12 @@ loop-next-init c =
 
 pub loop-next-preserved : goal.loop-next-preserved
 loop-next-preserved c =
-    let s = subst (LineAt _ _) c.in-Statement.is c.statement_at.ensures in
+    let s = c.in-Some.ensures in
     turn _ _ _ _ _ _ c.loop-next.invariant _ _ s (fits c.args.text.now c.args.out.now c.args.at c.args.count c.requires) c.letter_of.ensures
 
-pub returns-in-Unknown : goal.returns-in-Unknown
-returns-in-Unknown c =
-    absurd (never _ _ _ _ _ _ c.loop-next.invariant (omega arith) (subst (LineAt _ _) c.in-Unknown.is c.statement_at.ensures))
+pub returns-in-None : goal.returns-in-None
+returns-in-None c =
+    absurd (never _ _ _ _ _ _ c.loop-next.invariant (omega arith) c.in-None.ensures)
 
 pub returns : goal.returns
 returns c = finished _ _ _ _ _ _ c.loop-next.invariant (omega arith)

@@ -1,15 +1,13 @@
 -- The letters of a text's statements, written from the last place to the first.
-use Rattle.std.specs.Prelude.{◌≡◌, refl, ℕ, suc, ◌-◌, ◌≤◌, ◌<◌, get_or, take, set}
+use Rattle.std.specs.Prelude.{◌≡◌, refl, ℕ, suc, ◌-◌, ◌≤◌, ◌<◌, get_or, take, set, Some, Ok}
 use Rattle.std.proofs.Math.Path.{sym, ap, ap₂}
 use Rattle.std.proofs.Common.{◌∙◌, arith, length-append, length-drop, length-set, take-append-drop, drop_of_length-le, take-suc, length-take-le}
 use mathlib.Core.List.{List, [], ◌∷◌, ◌++◌, map, append-nil, append_assoc}
 use Rattle.std.proofs.Math.ListN.{length, drop}
 use Rattle.std.proofs.lemmas.List.{length-map, set_at}
 use Rattle.std.proofs.Math.Seq.{append_snoc}
-use Rattle.file.specs.declared.Wrote.TheVariants.{Bytes}
 use Rattle.file.specs.File.{written}
 use Rattle.letter.specs.declared.Gate.{Gate}
-use Rattle.letter.specs.declared.Letter.TheVariants.{Is}
 use Rattle.letter.specs.Gate.{letter}
 use Rattle.gate.specs.Reading.{Reading, gates, refusal}
 use Rattle.qasm.specs.Reading.{lines, earlier, statements}
@@ -18,7 +16,7 @@ use Rattle.qasm.specs.Laws.Answer.{sized}
 use Rattle.qasm_read.specs.Statements.{StatementAt, NoStatement, read_from, list_in}
 use Rattle.qasm_read.specs.Laws.Statement.{no_statement}
 
-pub list_in_lem : (r : Reading) (n : ℕ) → Bytes n ≡ size (map letter) r → (r ≡ gates (list_in r)) × (n ≡ length (list_in r))
+pub list_in_lem : (r : Reading) (n : ℕ) → Ok n ≡ size (map letter) r → (r ≡ gates (list_in r)) × (n ≡ length (list_in r))
 list_in_lem r n e =
     let s = sized (map letter) r n e in
     let l = ap list_in s.is in
@@ -43,7 +41,7 @@ record Last (r : Reading) (g : Gate) (list : List Gate) : Type 0 where
   are : r ≡ gates others
   whole : list ≡ others ++ g ∷ []
 
-last_of : (r : Reading) (g : Gate) (list : List Gate) → earlier (Is g) r ≡ gates list → Last r g list
+last_of : (r : Reading) (g : Gate) (list : List Gate) → earlier (Some g) r ≡ gates list → Last r g list
 last_of (gates v) g list e = record { others = v; are = refl; whole = cc }
 last_of (refusal n) g list e = let z : ◌≡◌ {A = ℕ} 0 1 = cc in absurd (omega arith)
 

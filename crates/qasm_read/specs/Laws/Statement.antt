@@ -1,5 +1,5 @@
 -- One statement: where a line of the table stands at the front of bytes, it is their first line, and where none does, the first line is no statement.
-use Rattle.std.specs.Prelude.{◌≡◌, refl, Bool, true, false, cond, List, [], ◌∷◌, ◌++◌, ℕ, ◌+◌, ◌≤◌, ◌<◌, T, length, take, drop}
+use Rattle.std.specs.Prelude.{◌≡◌, refl, Bool, true, false, cond, List, [], ◌∷◌, ◌++◌, ℕ, ◌+◌, ◌≤◌, ◌<◌, T, length, take, drop, Option, Some, None}
 use Rattle.std.proofs.Common.{sym, ap, ap₂, subst, ◌∙◌, inl, inr, arith, take-append-drop, length-take, length-drop, drop-drop}
 use Rattle.std.proofs.lemmas.List.{take-append-le}
 use Rattle.std.proofs.Math.Seq.{take-append_seam}
@@ -7,8 +7,6 @@ use Rattle.matrix.specs.List.{same_list}
 use Rattle.matrix.specs.Laws.Test.{same_list_lem, same_list_refl}
 use Rattle.letter.specs.declared.Gate.{Gate}
 use Rattle.letter.specs.declared.Gate.TheVariants.{H1, H2, S1, S2, Cz, Cs}
-use Rattle.letter.specs.declared.Letter.{Letter}
-use Rattle.letter.specs.declared.Letter.TheVariants.{Is, Unknown}
 use Rattle.gate.specs.Reading.{refusal}
 use Rattle.qasm.specs.Text.{statement, reversed, longest_statement}
 use Rattle.qasm.specs.Reading.{lines, statement_of, earlier, statements}
@@ -28,7 +26,7 @@ begins_long bs l t = let e = ap length (same_list_lem (take (length l) bs) l t) 
 
 -- a line of the table, of a gate
 record Form (l : List ℕ) (g : Gate) : Type 0 where
-  of : statement_of l ≡ Is g
+  of : statement_of l ≡ Some g
   whole : (bs : List ℕ) → lines (l ++ bs) ≡ l ∷ lines bs
   more : 0 < length l
   short : length l ≤ longest_statement
@@ -99,9 +97,9 @@ no_statement (b ∷ bs) h n = ap statements f.first ∙ go (statement_of f.line)
     not_begun : (l : List ℕ) → begins (b ∷ bs) l ≡ false → f.line ≡ l → ⊥
     not_begun l t e = let z : true ≡ false = sym (begun (b ∷ bs) l f.rest (f.is ∙ ap (λ x. x ++ f.rest) e)) ∙ t in subst T z tt
 
-    go : (x : Letter) → statement_of f.line ≡ x → earlier x (statements (lines f.rest)) ≡ refusal 23
-    go Unknown e = refl
-    go (Is g) e = elim (forms f.line g e) [ inl i ↦ absurd (not_begun (statement g) (n.written g) i) | inr i ↦ absurd (not_begun (reversed g) (n.turned g) i) ]
+    go : (x : Option Gate) → statement_of f.line ≡ x → earlier x (statements (lines f.rest)) ≡ refusal 23
+    go None e = refl
+    go (Some g) e = elim (forms f.line g e) [ inl i ↦ absurd (not_begun (statement g) (n.written g) i) | inr i ↦ absurd (not_begun (reversed g) (n.turned g) i) ]
 
 -- nor does one stand there where more bytes follow, if these are enough for any
 pub no_statement_more : (bs rest : List ℕ) → longest_statement ≤ length bs → NoStatement bs → NoStatement (bs ++ rest)

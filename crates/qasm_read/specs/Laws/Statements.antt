@@ -1,11 +1,10 @@
 -- Statements one after the other.
-use Rattle.std.specs.Prelude.{◌≡◌, refl, true, false, ◌⊎◌, ◌≢◌, ℕ, ◌≤◌, ◌<◌, T, length, take, drop}
+use Rattle.std.specs.Prelude.{◌≡◌, refl, true, false, ◌⊎◌, ◌≢◌, ℕ, ◌≤◌, ◌<◌, T, length, take, drop, Some}
 use Rattle.std.proofs.Common.{sym, subst, ◌∙◌, inl, inr, arith, take-append-drop, length-drop, drop_of_length-le, lt-ltb, le-ltb}
 use Rattle.std.proofs.Math.Path.{ap}
 use mathlib.Core.List.{List, [], ◌∷◌, ◌++◌, flatten, append_assoc, append-nil}
 use Rattle.matrix.specs.Laws.Test.{same_list_lem}
 use Rattle.letter.specs.declared.Gate.{Gate}
-use Rattle.letter.specs.declared.Letter.TheVariants.{Is}
 use Rattle.gate.specs.Reading.{Reading, gates, refusal, largest_list}
 use Rattle.qasm.specs.Text.{version_line, include_line, register_line, first_lines, first_length}
 use Rattle.qasm.specs.Reading.{lines, earlier, statements, after_lines, read_text, limited, read_qasm}
@@ -21,7 +20,7 @@ pub followed_none : (r : Reading) → r ≡ followed [] r
 followed_none (gates v) = ap gates (sym (append-nil v))
 followed_none (refusal n) = refl
 
-pub followed_earlier : (w : List Gate) (g : Gate) (r : Reading) → followed w (earlier (Is g) r) ≡ followed (g ∷ w) r
+pub followed_earlier : (w : List Gate) (g : Gate) (r : Reading) → followed w (earlier (Some g) r) ≡ followed (g ∷ w) r
 followed_earlier w g (gates v) = ap gates (append_assoc v (g ∷ []) w)
 followed_earlier w g (refusal n) = refl
 

@@ -1,5 +1,6 @@
 -- What is written is that of the answer's case.
-use mathlib.Core.Path.{◌≡◌, sym, ap, ◌∙◌}
+use Rattle.std.specs.Prelude.{Err}
+use mathlib.Core.Path.{◌≡◌, ap, ◌∙◌}
 use mathlib.Core.List.{List, [], ◌∷◌, map}
 use Prim.Native.Nat.{ℕ, ◌≤◌}
 use native.Mathlib.Omega.{arith}
@@ -21,22 +22,22 @@ room bs old h w e = let t = letters_small bs w e in omega arith
 
 pub write_refused-requires : goal.write_refused-requires
 write_refused-requires c =
-    let p = c.qasm_to_gates-answer.ensures in
-    let (e, f) = refused (map letter) _ _ (read_qasm c.args.text.now) (room c.args.text.now c.args.out.now (omega arith)) _ (sym c.in-Refused.is ∙ p.answer) p.buffer in
-    let l = line_length refused_word (c.in-Refused.refusal ∷ []) in
+    let p = c.in-Err.ensures in
+    let (e, f) = refused (map letter) _ _ (read_qasm c.args.text.now) (room c.args.text.now c.args.out.now (omega arith)) _ (ap Err c.number.ensures.0 ∙ p.answer) p.buffer in
+    let l = line_length refused_word (c.number.result ∷ []) in
     let m = ap length f in
     omega arith
 
-pub returns-in-Bytes : goal.returns-in-Bytes
-returns-in-Bytes c =
-    let p = c.qasm_to_gates-answer.ensures in
-    let (n, a) = wrote (map letter) _ _ (read_qasm c.args.text.now) (room c.args.text.now c.args.out.now (omega arith)) _ (sym c.in-Bytes.is ∙ p.answer) p.buffer in
+pub returns-in-Ok : goal.returns-in-Ok
+returns-in-Ok c =
+    let p = c.in-Ok.ensures in
+    let (n, a) = wrote (map letter) _ _ (read_qasm c.args.text.now) (room c.args.text.now c.args.out.now (omega arith)) _ p.answer p.buffer in
     (a, within a n)
 
-pub returns-in-Refused : goal.returns-in-Refused
-returns-in-Refused c =
-    let p = c.qasm_to_gates-answer.ensures in
-    let (e, f) = refused (map letter) _ _ (read_qasm c.args.text.now) (room c.args.text.now c.args.out.now (omega arith)) _ (sym c.in-Refused.is ∙ p.answer) p.buffer in
-    let l = line_length refused_word (c.in-Refused.refusal ∷ []) in
+pub returns-in-Err : goal.returns-in-Err
+returns-in-Err c =
+    let p = c.in-Err.ensures in
+    let (e, f) = refused (map letter) _ _ (read_qasm c.args.text.now) (room c.args.text.now c.args.out.now (omega arith)) _ (ap Err c.number.ensures.0 ∙ p.answer) p.buffer in
+    let l = line_length refused_word (c.number.result ∷ []) in
     let a = rw f at c.write_refused.ensures in
     (appended_as e a, within a (omega arith))

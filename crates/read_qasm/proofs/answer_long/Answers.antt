@@ -6,4 +6,4 @@ use Rattle.text.specs.Laws.Text.{line_length}
 use Rattle.read_qasm.proofs.answer_long.Goals as goal
 
 pub write_refused-requires : goal.write_refused-requires
-write_refused-requires g c = let l = line_length refused_word (c.in_ok-refusal.refusal ∷ []) in omega arith
+write_refused-requires g c = let l = line_length refused_word (c.number.result ∷ []) in omega arith

@@ -1,5 +1,5 @@
 -- Long texts.
-use Rattle.std.specs.Prelude.{◌≡◌, refl, true, false, ℕ, ◌-◌, ◌≤◌, ◌<◌, length, take}
+use Rattle.std.specs.Prelude.{◌≡◌, refl, true, false, ℕ, ◌-◌, ◌≤◌, ◌<◌, length, take, Some, None}
 use Rattle.std.proofs.Common.{sym, subst, ◌∙◌, arith, length-take-le, lt-ltb}
 use Rattle.std.proofs.Math.Path.{ap}
 use mathlib.Core.List.{List, [], ◌++◌, flatten, append_assoc}
@@ -60,13 +60,8 @@ module _ (bs : List ℕ) (h : longer ≤ length bs) where
   first_long : length (flatten first_lines) ≤ length bs
   first_long = let l = length_first in omega arith
 
-  pub wrong_start : begins bs (flatten first_lines) ≡ false → StartOf bs 0
-  wrong_start t = record {
-    inside = omega arith;
-    long = λ z. absurd (omega arith);
-    earns = λ z. absurd (omega arith);
-    wrong = λ z rest. wrong (bs ++ rest) (begins_more bs rest (flatten first_lines) first_long ∙ t);
-  }
+  pub wrong_start : begins bs (flatten first_lines) ≡ false → StartOf bs None
+  wrong_start t rest = wrong (bs ++ rest) (begins_more bs rest (flatten first_lines) first_long ∙ t)
 
   module _ (t : begins bs (flatten first_lines) ≡ true) (r : Statements) (s : StatementsFrom bs first_length r) where
     reads : (rest : List ℕ) → read_text (bs ++ rest) ≡ followed s.list (statements (lines (drop r.end bs ++ rest)))
@@ -79,27 +74,21 @@ module _ (bs : List ℕ) (h : longer ≤ length bs) where
         ∙ s.reads (drop r.end bs ++ rest)
 
     -- a line is wrong
-    pub wrong_line : r.end ≤ longest_text → StartOf bs 0
+    pub wrong_line : r.end ≤ longest_text → StartOf bs None
     unfolding read_qasm
-    wrong_line e = record {
-      inside = omega arith;
-      long = λ z. absurd (omega arith);
-      earns = λ z. absurd (omega arith);
-      wrong = λ z rest.
-          let d = drop r.end bs in
-          let m = length-drop r.end bs in
-          let a = length-append d rest in
-          ap limited (reads rest ∙ ap (followed s.list) (no_statement (d ++ rest) (omega arith) (no_statement_more d rest (omega arith) (s.stops (omega arith)))));
-    }
+    wrong_line e rest =
+        let d = drop r.end bs in
+        let m = length-drop r.end bs in
+        let a = length-append d rest in
+        ap limited (reads rest ∙ ap (followed s.list) (no_statement (d ++ rest) (omega arith) (no_statement_more d rest (omega arith) (s.stops (omega arith)))))
 
     -- there are more statements than are read
-    pub long_start : longest_text < r.end → StartOf bs r.end
+    pub long_start : longest_text < r.end → StartOf bs (Some r.end)
     unfolding read_qasm behind
     long_start e = record {
       inside = s.inside;
-      long = λ z. e;
-      earns = λ z rest. ap limited (reads rest) ∙ limited_many s.list (statements (lines (drop r.end bs ++ rest))) (let k = s.short in let n = s.ends in omega arith);
-      wrong = λ z. absurd (omega arith);
+      long = e;
+      earns = λ rest. ap limited (reads rest) ∙ limited_many s.list (statements (lines (drop r.end bs ++ rest))) (let k = s.short in let n = s.ends in omega arith);
     }
 
 -- ---- a part of a buffer moved to its front

@@ -1,26 +1,26 @@
 -- A long text read on to its end, a part at a time.
-use Rattle.std.specs.Prelude.{◌≡◌, List, [], ◌++◌, ◌≢◌, ℕ, ◌+◌, ◌-◌, ◌≤◌, ◌<◌, length, take, drop}
+use Rattle.std.specs.Prelude.{◌≡◌, List, [], ◌++◌, ℕ, ◌+◌, ◌-◌, ◌≤◌, ◌<◌, length, take, drop}
 use Rattle.std.proofs.Common.{sym, ap, subst, ◌∙◌, append_assoc, append-nil, arith, length-append, length-drop, take_all, length-take-le, eq-eqb, ne_eqb}
 use Rattle.std.proofs.Math.Decide.{ℕ_discrete}
 use Rattle.gate.specs.Reading.{refusal}
 use Rattle.qasm.specs.Text.{longest_statement}
 use Rattle.qasm.specs.Reading.{read_qasm}
-use Rattle.read_qasm.specs.Long.{longer, behind, StartOf, LeftOf, Waiting, last_refusal, Earned}
+use Rattle.read_qasm.specs.Long.{longer, behind, StartAt, LeftOf, Waiting, last_refusal, Earned}
 use Rattle.read_qasm.specs.Laws.Long.{behind_none, behind_wrong, behind_stuck}
 
 -- what is left of the first bytes behind their start is shorter than the longest statement
-pub tail_short : (bs : List ℕ) (start : ℕ) → StartOf bs start → start ≢ 0 → length bs ≡ longer
+pub tail_short : (bs : List ℕ) (start : ℕ) → StartAt bs start → length bs ≡ longer
     → (take (length bs - start) (drop start bs) ≡ drop start bs) × (length (drop start bs) < longest_statement)
-tail_short bs start s n l =
-    let h = s.long (omega arith) in
+tail_short bs start s l =
+    let h = s.long in
     let d = length-drop start bs in
     (take_all (length bs - start) (drop start bs) (omega arith), omega arith)
 
 -- the first bytes
-pub waiting_start : (bs : List ℕ) (start : ℕ) → StartOf bs start → start ≢ 0 → (new : List ℕ) (left : ℕ) → length (drop start bs) ≤ length new → LeftOf (drop start bs) new left → Waiting bs new left
-waiting_start bs start s n new left h d = record {
+pub waiting_start : (bs : List ℕ) (start : ℕ) → StartAt bs start → (new : List ℕ) (left : ℕ) → length (drop start bs) ≤ length new → LeftOf (drop start bs) new left → Waiting bs new left
+waiting_start bs start s new left h d = record {
   inside = let i = d.inside in omega arith;
-  earns = λ rest. s.earns (omega arith) rest ∙ sym (d.earns rest);
+  earns = λ rest. s.earns rest ∙ sym (d.earns rest);
   stops = d.stops;
 }
 
@@ -54,8 +54,8 @@ pub record ReadOn (bs buffer : List ℕ) (left : ℕ) : Type 0 where
   pub bytes : List ℕ
   pub waits : Waiting (bs ++ bytes) buffer left
 
-pub read_start : (bs : List ℕ) (start : ℕ) → StartOf bs start → start ≢ 0 → (new : List ℕ) (left : ℕ) → length (drop start bs) ≤ length new → LeftOf (drop start bs) new left → ReadOn bs new left
-read_start bs start s n new left h d = record { bytes = []; waits = subst (λ x. Waiting x new left) (sym (append-nil bs)) (waiting_start bs start s n new left h d) }
+pub read_start : (bs : List ℕ) (start : ℕ) → StartAt bs start → (new : List ℕ) (left : ℕ) → length (drop start bs) ≤ length new → LeftOf (drop start bs) new left → ReadOn bs new left
+read_start bs start s new left h d = record { bytes = []; waits = subst (λ x. Waiting x new left) (sym (append-nil bs)) (waiting_start bs start s new left h d) }
 
 module _ (bs old : List ℕ) (left : ℕ) (s : ReadOn bs old left) where
   pub read_next : (more new : List ℕ) (n : ℕ) → left + length more ≤ length new → LeftOf (take left old ++ more) new n → ReadOn bs new n

@@ -3,7 +3,7 @@ use mathlib.Core.Path.{sym, subst}
 use Prim.Native.Nat.{◌≤◌}
 use native.Mathlib.Omega.{arith}
 use Rattle.matrix.specs.Operator.{Orthogonal, Reduced}
-use Rattle.matrix.specs.Array.{Least}
+use Rattle.matrix.specs.declared.Least.{Least}
 use Rattle.matrix.specs.Laws.Array.{operator_of, least_form_lem, least_orthogonal}
 use Rattle.reduction.proofs.normal_form.Goals as goal
 

@@ -4,7 +4,6 @@ use mathlib.Core.Path.{◌≡◌, refl, sym, ap, ap₂, ◌∙◌}
 use Prim.Native.Nat.{ℕ, suc, ◌+◌, ◌-◌, ◌<◌}
 use native.Mathlib.Numerals.{add-one}
 use native.Mathlib.Omega.{arith}
-use borrow.Author.Rules.{rules}
 use lib.ListN.{length, set, replicate}
 use lib.Seq.{set_at}
 use mir.Val.{bool_byte}
@@ -27,13 +26,13 @@ byte_is false = refl
 
 pub loop-n-init : goal.loop-n-init
 unfolding remainder generators loose_cuts
-loop-n-init c = (search rules, refl, refl, refl)
+loop-n-init c = (refl, refl, refl)
 
 pub cut_once-step-requires : goal.cut_once-step-requires
 cut_once-step-requires c =
     let left = c.args.k - (c.loop-n.n + 1) in
     let (o, r) = under_way c.loop-n.n c.args.k (suc left) c.args.m (omega arith) c.requires.1 c.requires.2 in
-    rw c.loop-n.invariant.1 (record { rest = left; small = omega arith; orthogonal = o; reduced = r })
+    rw c.loop-n.invariant.0 (record { rest = left; small = omega arith; orthogonal = o; reduced = r })
 
 pub overflow_add-loose : goal.overflow_add-loose
 overflow_add-loose c =
@@ -48,11 +47,10 @@ loop-n-preserved c =
     let n = c.loop-n.n in
     let m = c.args.m in
     let cut = c.cut_once-step.ensures in
-    let q = c.loop-n.invariant.1 in (
-      omega arith,
+    let q = c.loop-n.invariant.0 in (
       rw add-one (cut.matrix ∙ ap step q ∙ sym (remainder_next n m)),
-      ap₂ (λ xs x. set xs n x) c.loop-n.invariant.2 (cut.number ∙ ap chosen q) ∙ numbers_more n _ (generators n m) (length_generators n m) (omega arith)
+      ap₂ (λ xs x. set xs n x) c.loop-n.invariant.1 (cut.number ∙ ap chosen q) ∙ numbers_more n _ (generators n m) (length_generators n m) (omega arith)
           ∙ ap (numbers_of (n + 1)) (sym (generators_next n m) ∙ ap (λ x. generators x m) (sym (add-one n))),
-      ap₂ (λ x t. x + bool_byte t) c.loop-n.invariant.3 (cut.loose ∙ ap loose_cut q) ∙ ap (λ x. loose_cuts n m + x) (byte_is (loose_cut (remainder n m)))
+      ap₂ (λ x t. x + bool_byte t) c.loop-n.invariant.2 (cut.loose ∙ ap loose_cut q) ∙ ap (λ x. loose_cuts n m + x) (byte_is (loose_cut (remainder n m)))
           ∙ sym (loose_next n m) ∙ ap (λ x. loose_cuts x m) (sym (add-one n)),
     )

@@ -1,12 +1,8 @@
 -- The invariant: the array holds the numbers of the first n generators, the matrix is what they leave, and L counts their loose cuts.
 use mathlib.Core.Path.{◌≡◌}
-use Prim.Native.Nat.{◌-◌, ◌≤◌}
 use Rattle.reduction.specs.Reduction.{generators, remainder, loose_cuts}
 use Rattle.reduction.specs.Result.{numbers_of}
 use Rattle.reduction.proofs.reduce.Given as goal
 
 abbrev pub invariant-loop-n : goal.invariant-loop-n
-invariant-loop-n l = (l.n ≤ l.k) × (l.matrix ≡ remainder l.n l.initial.matrix) × (l.numbers ≡ numbers_of l.n (generators l.n l.initial.matrix)) × (l.loose ≡ loose_cuts l.n l.initial.matrix)
-
-abbrev pub decreases-loop-n : goal.decreases-loop-n
-decreases-loop-n l = l.k - l.n
+invariant-loop-n l = (l.matrix ≡ remainder l.n l.initial.matrix) × (l.numbers ≡ numbers_of l.n (generators l.n l.initial.matrix)) × (l.loose ≡ loose_cuts l.n l.initial.matrix)

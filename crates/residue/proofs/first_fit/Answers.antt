@@ -10,12 +10,11 @@ use Rattle.residue.specs.Generator.{table, fits, first_fit}
 use Rattle.residue.specs.Masks.{mask_at, pairs_fit}
 use Rattle.residue.specs.Laws.Table.{from_zero}
 use Rattle.residue.specs.Laws.Generator.{rows_fit}
-use borrow.Author.Rules.{rules}
 use Rattle.residue.proofs.first_fit.Goals as goal
 
 pub loop-g-init : goal.loop-g-init
 unfolding first_fit
-loop-g-init c = (search rules, search rules, refl)
+loop-g-init c = refl
 
 -- the test of a turn
 here : (masks : List ℕ) (g : ℕ) (t : Bool) → t ≡ pairs_fit masks (get_or (map (map (λ x. x - 1)) table) (g - 1) []) → fits (mask_at masks) g ≡ t
@@ -25,14 +24,14 @@ pub returns-then-pairs_fit : goal.returns-then-pairs_fit
 unfolding table
 returns-then-pairs_fit c =
     let masks = c.args.masks in
-    sym (c.loop-g.invariant.2 ∙ first_here (fits (mask_at masks)) 16 c.loop-g.g (omega arith) (here masks c.loop-g.g _ c.pairs_fit.ensures ∙ c.if-pairs_fit.true))
+    sym (c.loop-g.invariant ∙ first_here (fits (mask_at masks)) 16 c.loop-g.g (omega arith) (here masks c.loop-g.g _ c.pairs_fit.ensures ∙ c.if-pairs_fit.true))
 
 pub loop-g-preserved : goal.loop-g-preserved
 unfolding table
 loop-g-preserved c =
     let masks = c.args.masks in
-    (search rules, search rules, c.loop-g.invariant.2 ∙ first_next (fits (mask_at masks)) 16 c.loop-g.g (omega arith) (here masks c.loop-g.g _ c.pairs_fit.ensures ∙ c.if-pairs_fit.false))
+    c.loop-g.invariant ∙ first_next (fits (mask_at masks)) 16 c.loop-g.g (omega arith) (here masks c.loop-g.g _ c.pairs_fit.ensures ∙ c.if-pairs_fit.false)
 
 pub returns : goal.returns
 unfolding first_from
-returns c = let e : 16 - c.loop-g.g ≡ 0 = omega arith in sym (c.loop-g.invariant.2 ∙ rw e)
+returns c = let e : c.loop-g.g ≡ 16 = omega arith in sym (rw e at c.loop-g.invariant)

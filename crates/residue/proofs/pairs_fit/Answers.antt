@@ -1,21 +1,22 @@
-use mathlib.Core.Path.{◌≡◌, sym, ◌∙◌}
-use Prim.Native.Nat.{◌-◌}
-use native.Mathlib.Omega.{arith}
-use borrow.Author.Tests.{eq-eqb, ne_eqb}
-use Rattle.matrix.specs.Range.{every_from}
-use Rattle.matrix.specs.Laws.Range.{every_next, every_stop}
+use mathlib.Core.Path.{refl, ◌∙◌}
+use Prim.Native.Nat.{ℕ, ◌+◌, ◌*◌}
+use mathlib.Core.Bool.{Bool}
+use mathlib.Core.List.{List}
+use lib.Dec.{eqb}
+use lib.ListN.{get_or}
 use borrow.Author.Rules.{rules}
-use Rattle.residue.proofs.pairs_fit.Invariants.{pair_fits}
+use borrow.Author.Tests.{tests}
+use Rattle.std.proofs.lemmas.Iterator.{YieldsList-from_range}
+use Rattle.std.proofs.lemmas.Iterator.Search.{all_from_yields_List}
+use Rattle.matrix.proofs.Chains.{every_in}
+use Rattle.residue.specs.Masks.{mask_at}
 use Rattle.residue.proofs.pairs_fit.Goals as goal
 
-pub returns-then-masks-i : goal.returns-then-masks-i
-returns-then-masks-i c =
-    sym (c.loop-p.invariant.1 ∙ every_stop (pair_fits c.args.masks.now c.args.pairs) 3 c.loop-p.p (omega arith) (ne_eqb _ _ c.if-masks-i.true))
-
-pub loop-p-preserved : goal.loop-p-preserved
-loop-p-preserved c =
-    (search rules, c.loop-p.invariant.1 ∙ every_next (pair_fits c.args.masks.now c.args.pairs) 3 c.loop-p.p (omega arith) (eq-eqb _ _ c.if-masks-i.false))
+-- whether the rows of pair p have one mask
+abbrev pair_fits : List ℕ → List ℕ → ℕ → Bool
+pair_fits masks pairs p = eqb (mask_at masks (get_or pairs (p * 2) 0)) (mask_at masks (get_or pairs (p * 2 + 1) 0))
 
 pub returns : goal.returns
-unfolding every_from
-returns c = let e : 3 - c.loop-p.p ≡ 0 = omega arith in sym (c.loop-p.invariant.1 ∙ rw e)
+returns c =
+    let f = pair_fits c.args.masks.now c.args.pairs in
+    all_from_yields_List f _ _ _ c.all.ensures.ran (YieldsList-from_range 0 3 3 refl refl) (λ x b q k. search (rules, tests)) ∙ every_in f 0 3

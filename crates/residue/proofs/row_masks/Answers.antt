@@ -1,9 +1,9 @@
-use mathlib.Core.Path.{◌≡◌, refl}
-use native.Mathlib.Omega.{arith}
-use Rattle.matrix.specs.Laws.Range.{filled_all}
+use borrow.Author.Rules.{rules}
+use borrow.Author.Tests.{tests}
+use Rattle.matrix.specs.Matrix.{entry}
+use Rattle.matrix.specs.Array.{row_mask}
+use Rattle.matrix.proofs.Chains.{made}
 use Rattle.residue.proofs.row_masks.Goals as goal
 
 pub returns : goal.returns
-returns c =
-    let e : c.loop-r.r ≡ 6 = omega arith in
-    filled_all _ _ _ 6 _ (rw e at c.loop-r.invariant.1) refl
+returns c = made _ (row_mask (entry c.args.m.now)) 0 c.from_fn.result (λ x y q k. search (rules, tests)) 6 c.from_fn.ensures.items

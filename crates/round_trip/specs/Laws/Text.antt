@@ -1,5 +1,5 @@
 -- From text to text: a text read, its letters multiplied, the product cut, and the list written as text.
-use Rattle.std.specs.Prelude.{◌≡◌, List, map, ℕ, ◌≤◌, length}
+use Rattle.std.specs.Prelude.{◌≡◌, List, map, ℕ, ◌≤◌, length, Result}
 use Rattle.std.proofs.Common.{arith}
 use Rattle.matrix.specs.Operator.{SameOperator, SameUpToSign}
 use Rattle.matrix.specs.Laws.Operator.{same_operator_sym, same_operator_trans}
@@ -41,7 +41,7 @@ module _ (bs : List ℕ) (w : List Gate) (e : read_qasm bs ≡ gates w) (f : rea
   file_means = same_operator_trans (same_operator_sym (text_means bs w (read_within bs w e).0).same) (read_into (map letter w) w f).multiplies.same
 
   -- what `operator_to_gates` then writes into a buffer that has room for any list
-  pub text_to_text : (old new : List ℕ) (a : Listed) → GatesPromise (product_file w) old new a → gates_buffer ≤ length old
+  pub text_to_text : (old new : List ℕ) (a : Result Listed ℕ) → GatesPromise (product_file w) old new a → gates_buffer ≤ length old
       → (v : List Gate) × (s : ℕ) × Handed (product_file w) old new a v s × Shortest bs v s
   text_to_text old new a p h =
       let z = product_accepted (map letter w) w f in

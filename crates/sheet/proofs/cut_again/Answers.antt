@@ -1,25 +1,24 @@
 -- The bytes are compared with those of the sheet, which the normal form holds.
-use mathlib.Core.Path.{◌≡◌, sym, ap, ap₂, ◌∙◌, subst}
+use Rattle.std.specs.Prelude.{Ok, Err}
+use mathlib.Core.Path.{◌≡◌, refl, sym, ap, ap₂, ◌∙◌}
 use Prim.Native.Nat.{ℕ, ◌-◌, ◌≤◌}
 use native.Mathlib.Omega.{arith}
 use mathlib.Core.Bool.{Bool, true, false, not}
 use mathlib.Core.List.{List}
-use lib.Dec.{T}
 use lib.IntN.{ℤ}
 use lib.ListN.{take, replicate}
 use lib.Seq.{take_at}
 use Rattle.matrix.specs.List.{same_list}
 use Rattle.matrix.specs.Matrix.{entry}
 use Rattle.matrix.specs.Operator.{operator, Orthogonal}
-use Rattle.matrix.specs.Array.{Least, least_form}
-use Rattle.matrix.specs.Laws.Test.{true_T}
+use Rattle.matrix.specs.declared.Least.{Least}
+use Rattle.matrix.specs.Array.{least_form}
 use Rattle.matrix.specs.Laws.Array.{least_form_lem}
 use Rattle.clifford.specs.Columns.{column_bytes}
 use Rattle.reduction.specs.declared.Normal.{Normal}
 use Rattle.reduction.specs.Reduction.{count, taken}
 use Rattle.reduction.specs.Result.{WholeOf}
 use Rattle.reduction.specs.Laws.NormalForm.{cutting}
-use Rattle.file.specs.declared.Read.{Read}
 use Rattle.sheet_bytes.specs.Bytes.{sheet_bytes, sheet}
 use Rattle.sheet.specs.Promise.{CutAgain}
 use borrow.Author.Tests.{not-true, not-false}
@@ -38,15 +37,11 @@ module _ (s : List ℕ) (k : ℕ) (m : List ℤ) (o : Orthogonal (operator k (en
     test : same_list (sheet k m) s ≡ t
     test = sym (e ∙ ap (λ x. same_list x s) held)
 
-    another : not t ≡ true → (r : Read) → r.refusal ≡ 13 → CutAgain s k m r
-    another n r z =
-        let q = test ∙ not-true t n in
-        record { refusal = z ∙ rw q; exponent = λ y. absurd (subst T q (true_T y)); matrix = λ y. absurd (subst T q (true_T y)) }
+    another : not t ≡ true → CutAgain s k m (Err 13)
+    another n = rw (test ∙ not-true t n) (refl, omega arith)
 
-    the_same : not t ≡ false → (l : Least) → l ≡ least_form k m → CutAgain s k m (record { refusal = 0; exponent = l.exponent; matrix = l.matrix })
-    the_same n l z =
-        let q = test ∙ not-false t n in
-        record { refusal = rw q; exponent = λ y. ap (λ (x : Least). x.exponent) z; matrix = λ y. ap (λ (x : Least). x.matrix) z }
+    the_same : not t ≡ false → {l : Least} → l ≡ least_form k m → CutAgain s k m (Ok l)
+    the_same n z = rw (test ∙ not-false t n) (refl, z)
 
 pub is_sheet-requires : goal.is_sheet-requires
 is_sheet-requires c =
@@ -54,8 +49,8 @@ is_sheet-requires c =
 
 pub returns-then-not-is_sheet : goal.returns-then-not-is_sheet
 returns-then-not-is_sheet c =
-    another c.args.bytes.now c.args.count c.args.m c.requires.1 c.normal_form-normal.result c.normal_form-normal.ensures _ c.columns_of-columns.ensures _ c.is_sheet.ensures c.if-not-is_sheet.true-raw c.refused.result (ap (λ (r : Read). r.refusal) c.refused.ensures)
+    another c.args.bytes.now c.args.count c.args.m c.requires.1 c.normal_form-normal.result c.normal_form-normal.ensures _ c.columns_of-columns.ensures _ c.is_sheet.ensures c.if-not-is_sheet.true-raw
 
 pub returns : goal.returns
 returns c =
-    the_same c.args.bytes.now c.args.count c.args.m c.requires.1 c.normal_form-normal.result c.normal_form-normal.ensures _ c.columns_of-columns.ensures _ c.is_sheet.ensures c.if-not-is_sheet.false-raw _ c.least_form-exponent.ensures
+    the_same c.args.bytes.now c.args.count c.args.m c.requires.1 c.normal_form-normal.result c.normal_form-normal.ensures _ c.columns_of-columns.ensures _ c.is_sheet.ensures c.if-not-is_sheet.false-raw c.least_form-exponent.ensures

@@ -41,4 +41,4 @@ returns-then-sheet_byte-bytes c =
 pub returns : goal.returns
 returns c =
     let m = length_held c.args.count c.args.numbers c.args.columns (omega (arith, c.requires)) (omega arith) in
-    equal (sheet_of_lem c.args.count c.args.numbers c.args.columns) c.args.bytes.now (m ∙ sym c.loop-n.invariant.0) (λ i u. c.loop-n.invariant.2 i (omega arith))
+    equal (sheet_of_lem c.args.count c.args.numbers c.args.columns) c.args.bytes.now (m ∙ sym c.loop-n.invariant.0) (λ i u. c.loop-n.invariant.1 i (omega arith))

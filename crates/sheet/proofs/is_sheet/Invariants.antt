@@ -1,6 +1,6 @@
 -- The invariant: the bytes before n are those of the sheet.
 use mathlib.Core.Path.{◌≡◌}
-use Prim.Native.Nat.{ℕ, ◌+◌, ◌-◌, ◌≤◌, ◌<◌}
+use Prim.Native.Nat.{ℕ, ◌+◌, ◌<◌}
 use mathlib.Core.List.{List}
 use lib.ListN.{length, get_or, take}
 use Rattle.sheet_bytes.specs.Bytes.{shortest, sheet_bytes}
@@ -10,7 +10,4 @@ abbrev pub sheet_of_lem : ℕ → List ℕ → List ℕ → List ℕ
 sheet_of_lem count numbers columns = sheet_bytes (take count numbers) columns
 
 abbrev pub invariant-loop-n : goal.invariant-loop-n
-invariant-loop-n l = (length l.bytes ≡ l.count + shortest) × (l.n ≤ length l.bytes) × ((i : ℕ) → i < l.n → get_or (sheet_of_lem l.count l.numbers l.columns) i 0 ≡ get_or l.bytes i 0)
-
-abbrev pub decreases-loop-n : goal.decreases-loop-n
-decreases-loop-n l = length l.bytes - l.n
+invariant-loop-n l = (length l.bytes ≡ l.count + shortest) × ((i : ℕ) → i < l.n → get_or (sheet_of_lem l.count l.numbers l.columns) i 0 ≡ get_or l.bytes i 0)

@@ -15,7 +15,6 @@ use Rattle.residue.specs.Generator.{generator}
 use Rattle.residue.specs.Laws.Generator.{generator_orthogonal}
 use Rattle.reduction.specs.Reduction.{normal_form}
 use Rattle.sheet.specs.Laws.Sheet.{numbers_sound}
-use borrow.Author.Rules.{rules}
 use Rattle.sheet.proofs.multiplied.Invariants.{Going}
 use Rattle.sheet.proofs.multiplied.Goals as goal
 
@@ -52,12 +51,12 @@ all gs C m r n h s e =
     (λ i j hi hj. sym (s.whole i j hi hj ∙ ap (λ x. product 6 (entry m) (normal_form x C).matrix i j) (ap (λ x. drop x gs) h ∙ drop-length gs)))
 
 pub loop-n-init : goal.loop-n-init
-loop-n-init c = (search rules, start _ _ _ c.identity-m.ensures)
+loop-n-init c = start _ _ _ c.identity-m.ensures
 
 pub times_generator-next-requires : goal.times_generator-next-requires
 times_generator-next-requires c =
     let b = numbers_sound c.args.bytes.now c.args.count c.requires.1 c.requires.2 c.loop-n.n (omega arith) in
-    (b.0, b.1, orthogonal_bounded c.loop-n.n 30 (entry c.loop-n.m) c.loop-n.invariant.1.orthogonal (omega (arith, c.requires.0)))
+    (b.0, b.1, orthogonal_bounded c.loop-n.n 30 (entry c.loop-n.m) c.loop-n.invariant.orthogonal (omega (arith, c.requires.0)))
 
 pub loop-n-preserved : goal.loop-n-preserved
 loop-n-preserved c =
@@ -65,13 +64,13 @@ loop-n-preserved c =
     let t = length-take-le c.args.count b c.requires.1 in
     let g = get_or-take c.args.count b c.loop-n.n 0 (omega arith) in
     let x = numbers_sound b c.args.count c.requires.1 c.requires.2 c.loop-n.n (omega arith) in
-    (omega arith, more (take c.args.count b) _ c.loop-n.m _ c.loop-n.n (omega arith) (rw g x.0) (rw g x.1) c.loop-n.invariant.1 (rw g c.times_generator-next.ensures))
+    more (take c.args.count b) _ c.loop-n.m _ c.loop-n.n (omega arith) (rw g x.0) (rw g x.1) c.loop-n.invariant (rw g c.times_generator-next.ensures)
 
 pub times_columns-requires : goal.times_columns-requires
 times_columns-requires c =
-    (c.requires.3, orthogonal_bounded c.loop-n.n 30 (entry c.loop-n.m) c.loop-n.invariant.1.orthogonal (omega (arith, c.requires.0)))
+    (c.requires.3, orthogonal_bounded c.loop-n.n 30 (entry c.loop-n.m) c.loop-n.invariant.orthogonal (omega (arith, c.requires.0)))
 
 pub returns : goal.returns
 returns c =
     let t = length-take-le c.args.count c.args.bytes.now c.requires.1 in
-    all (take c.args.count c.args.bytes.now) _ c.loop-n.m _ c.loop-n.n (omega arith) c.loop-n.invariant.1 c.times_columns.ensures
+    all (take c.args.count c.args.bytes.now) _ c.loop-n.m _ c.loop-n.n (omega arith) c.loop-n.invariant c.times_columns.ensures

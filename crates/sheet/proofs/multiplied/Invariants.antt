@@ -1,5 +1,5 @@
 -- The invariant: the product of the first n generators is in hand, and times the rest it is the whole.
-use Prim.Native.Nat.{ℕ, ◌-◌, ◌≤◌}
+use Prim.Native.Nat.{ℕ}
 use mathlib.Core.List.{List}
 use lib.IntN.{ℤ}
 use lib.ListN.{take, drop}
@@ -15,7 +15,4 @@ pub record Going (gs : List ℕ) (C : Matrix) (m : List ℤ) (n : ℕ) : Type 0 
   pub whole : Same 6 (normal_form gs C).matrix (product 6 (entry m) (normal_form (drop n gs) C).matrix)
 
 abbrev pub invariant-loop-n : goal.invariant-loop-n
-invariant-loop-n l = (l.n ≤ l.count) × Going (take l.count l.bytes) (columns_matrix l.columns) l.m l.n
-
-abbrev pub decreases-loop-n : goal.decreases-loop-n
-decreases-loop-n l = l.count - l.n
+invariant-loop-n l = Going (take l.count l.bytes) (columns_matrix l.columns) l.m l.n

@@ -1,22 +1,20 @@
 -- The ways out of the call.
-use Rattle.std.specs.Prelude.{◌≡◌, ◌≢◌, List, ℕ, ◌≤◌, ◌<◌}
+use Rattle.std.specs.Prelude.{◌≡◌, ◌≢◌, List, ℕ, ◌≤◌, ◌<◌, Result, Ok, Err}
 use Rattle.std.proofs.Common.{sym, ap, ◌∙◌, subst, le_trans}
-use Rattle.std.proofs.Math.Path.{ap₂}
 use Rattle.std.proofs.Math.ListN.{length}
+use native.Mathlib.Omega.{arith}
 use borrow.Author.Tests.{eq-eqb, ne_eqb, lt-ltb, le-ltb}
 use Rattle.matrix.specs.Operator.{SameOperator}
-use Rattle.file.specs.declared.Answer.{Answer}
-use Rattle.file.specs.declared.Answer.TheVariants.{Count, Refused}
 use Rattle.file.specs.File.{long_length, kind_for, length_for, file_of, written, Fits}
 use Rattle.file.specs.Laws.File.{length_most, exponent_back, orthogonal_fits}
-use Rattle.file.specs.declared.Read.{Read}
+use Rattle.matrix.specs.declared.Least.{Least}
 use Rattle.sheet_bytes.specs.Bytes.{sheet_operator}
 use Rattle.sheet_bytes.specs.Sheet.{sheet_refusal, sheet_least}
 use Rattle.sheet.specs.Promise.{SheetRead, operator_answer, operator_buffer, OperatorPromise}
 use Rattle.sheet.specs.Laws.Sheet.{accepted, sheet_same_least, sheet_least_lem, sheet_exact, sheet_stated, sheet_small, least_orthogonal_sheet, sheet_file_lem}
 
-module _ (s old : List ℕ) (r : Read) (c : SheetRead s r) where
-  promised : {new : List ℕ} {a : Answer} → a ≡ operator_answer s (length old) → new ≡ operator_buffer s old → OperatorPromise s old new a
+module _ (s old : List ℕ) where
+  promised : {new : List ℕ} {a : Result ℕ ℕ} → a ≡ operator_answer s (length old) → new ≡ operator_buffer s old → OperatorPromise s old new a
   promised p q = record {
     answer = p;
     buffer = q;
@@ -27,43 +25,41 @@ module _ (s old : List ℕ) (r : Read) (c : SheetRead s r) where
     count = exponent_back (sheet_least s).exponent (sheet_least s).matrix;
   }
 
-  no_refusal : r.refusal ≡ 0 → sheet_refusal s ≡ 0
-  no_refusal e = sym c.refusal ∙ e
-
-  pub turned_away : r.refusal ≢ 0 → OperatorPromise s old old (Refused r.refusal)
+  pub turned_away : (n : ℕ) → SheetRead s (Err n) → OperatorPromise s old old (Err n)
   unfolding operator_answer operator_buffer
-  turned_away h =
-      let t = ne_eqb (sheet_refusal s) 0 (λ z. h (c.refusal ∙ z)) in
-      promised (rw t (ap Refused c.refusal)) (rw t)
+  turned_away n c =
+      let t = ne_eqb (sheet_refusal s) 0 (λ z. let h = c.1 in omega arith) in
+      promised (rw t (ap Err c.0)) (rw t)
 
-  pub no_room : r.refusal ≡ 0 → length old < length_for r.exponent → OperatorPromise s old old (Refused 6)
-  unfolding operator_answer operator_buffer
-  no_room e h =
-      let t = eq-eqb (sheet_refusal s) 0 (no_refusal e) in
-      let l = lt-ltb (length old) (length_for (sheet_least s).exponent) (subst (λ k. length old < length_for k) (c.exponent (no_refusal e)) h) in
-      promised (rw (t, l)) (rw (t, l))
+  module _ (r : Least) (c : SheetRead s (Ok r)) where
+    pub no_room : length old < length_for r.exponent → OperatorPromise s old old (Err 6)
+    unfolding operator_answer operator_buffer
+    no_room h =
+        let t = eq-eqb (sheet_refusal s) 0 c.0 in
+        let l = lt-ltb (length old) (length_for (sheet_least s).exponent) (subst (λ (f : Least). length old < length_for f.exponent) c.1 h) in
+        promised (rw (t, l)) (rw (t, l))
 
-  pub done : (new : List ℕ) → r.refusal ≡ 0 → length_for r.exponent ≤ length old → new ≡ written old (file_of r.exponent r.matrix) → OperatorPromise s old new (Count r.exponent)
-  unfolding operator_answer operator_buffer
-  done new e h n =
-      let t = eq-eqb (sheet_refusal s) 0 (no_refusal e) in
-      let l = le-ltb (length old) (length_for (sheet_least s).exponent) (subst (λ k. length_for k ≤ length old) (c.exponent (no_refusal e)) h) in
-      let k = c.exponent (no_refusal e) in
-      promised (rw (t, l) (ap Count k)) (rw (t, l) (n ∙ ap₂ (λ x y. written old (file_of x y)) k (c.matrix (no_refusal e))))
+    pub done : (new : List ℕ) → length_for r.exponent ≤ length old → new ≡ written old (file_of r.exponent r.matrix) → OperatorPromise s old new (Ok r.exponent)
+    unfolding operator_answer operator_buffer
+    done new h n =
+        let t = eq-eqb (sheet_refusal s) 0 c.0 in
+        let l = le-ltb (length old) (length_for (sheet_least s).exponent) (subst (λ (f : Least). length_for f.exponent ≤ length old) c.1 h) in
+        promised (rw (t, l) (ap (λ (f : Least). Ok f.exponent) c.1)) (rw (t, l) (n ∙ ap (λ (f : Least). written old (file_of f.exponent f.matrix)) c.1))
 
-  -- the entries fit the file
-  pub fits : r.refusal ≡ 0 → Fits (kind_for r.exponent) r.matrix
-  fits e =
-      let z = no_refusal e in
-      rw (c.exponent z, c.matrix z) (orthogonal_fits (sheet_least s).exponent (sheet_least s).matrix (sheet_small s (accepted s z)) (least_orthogonal_sheet s (accepted s z)))
+    -- the entries fit the file
+    pub fits : Fits (kind_for r.exponent) r.matrix
+    fits =
+        let z = c.0 in
+        subst (λ (f : Least). Fits (kind_for f.exponent) f.matrix) (sym c.1)
+        (orthogonal_fits (sheet_least s).exponent (sheet_least s).matrix (sheet_small s (accepted s z)) (least_orthogonal_sheet s (accepted s z)))
 
 -- ---- the answer, where the buffer has room for every file
 
-module _ {s old new : List ℕ} {a : Answer} (room : long_length ≤ length old) (p : OperatorPromise s old new a) where
-  pub answer_count : sheet_refusal s ≡ 0 → a ≡ Count (sheet_least s).exponent
+module _ {s old new : List ℕ} {a : Result ℕ ℕ} (room : long_length ≤ length old) (p : OperatorPromise s old new a) where
+  pub answer_count : sheet_refusal s ≡ 0 → a ≡ Ok (sheet_least s).exponent
   unfolding operator_answer
   answer_count z = p.answer ∙ rw (eq-eqb (sheet_refusal s) 0 z, le-ltb (length old) (length_for (sheet_least s).exponent) (le_trans (length_most (sheet_least s).exponent) room))
 
-  pub answer_refused : sheet_refusal s ≢ 0 → a ≡ Refused (sheet_refusal s)
+  pub answer_refused : sheet_refusal s ≢ 0 → a ≡ Err (sheet_refusal s)
   unfolding operator_answer
   answer_refused n = p.answer ∙ rw (ne_eqb (sheet_refusal s) 0 n)

@@ -1,37 +1,38 @@
-use mathlib.Core.Path.{◌≡◌, sym, ◌∙◌}
-use Prim.Native.Nat.{ℕ, ◌-◌, ◌≤◌, ◌<◌}
+use mathlib.Core.Path.{◌≡◌, refl, sym}
+use mathlib.Core.Bool.{Bool, true, false}
+use mathlib.Core.List.{List}
+use Prim.Native.Nat.{ℕ, ◌≤◌, ◌<◌}
 use native.Mathlib.Omega.{arith}
-use mathlib.Core.Bool.{true, false}
-use borrow.Author.Tests.{le-leb, lt-leb}
-use Rattle.matrix.specs.Range.{every_from}
-use Rattle.matrix.specs.Laws.Range.{every_next, every_stop}
-use Rattle.sheet_bytes.specs.Sheet.{is_number}
+use lib.ListN.{length, get_or, take}
+use lib.Seq.{get_or-take, length-take-le}
 use borrow.Author.Rules.{rules}
+use borrow.Author.Tests.{leb-true, le-leb}
+use Rattle.std.specs.Prelude.{leb, IsTrue, EachIndex, ◌↔◌}
+use Rattle.matrix.specs.Laws.Test.{and_left, and_right}
+use Rattle.matrix.specs.Range.{every}
+use Rattle.matrix.specs.Laws.Range.{every_sound, every_complete}
+use Rattle.sheet_bytes.specs.Sheet.{is_number}
 use Rattle.sheet_bytes.proofs.are_numbers.Goals as goal
 
-below : (g : ℕ) → g < 1 → is_number g ≡ false
-below g h = rw (lt-leb 1 g h)
+bounds : (g : ℕ) → is_number g ≡ true → (1 ≤ g) × (g ≤ 15)
+bounds g e = (leb-true 1 g (and_left (leb 1 g) _ e), leb-true g 15 (and_right (leb 1 g) _ e))
 
-above : (g : ℕ) → 1 ≤ g → 15 < g → is_number g ≡ false
-above g l h = rw (le-leb 1 g l, lt-leb g 15 h)
-
-inside : (g : ℕ) → 1 ≤ g → g ≤ 15 → is_number g ≡ true
-inside g l h = rw (le-leb 1 g l, le-leb g 15 h)
-
-pub returns-then-g-lt1 : goal.returns-then-g-lt1
-returns-then-g-lt1 c =
-    sym (c.loop-n.invariant.1 ∙ every_stop _ _ c.loop-n.n (omega arith) (below _ c.if-g-lt1.true))
-
-pub returns-then-g-gt15 : goal.returns-then-g-gt15
-returns-then-g-gt15 c =
-    sym (c.loop-n.invariant.1 ∙ every_stop _ _ c.loop-n.n (omega arith) (above _ c.if-g-lt1.false c.if-g-gt15.true))
-
-pub loop-n-preserved : goal.loop-n-preserved
-loop-n-preserved c =
-    (search rules, c.loop-n.invariant.1 ∙ every_next _ _ c.loop-n.n (omega arith) (inside _ c.if-g-lt1.false c.if-g-gt15.false))
+-- the test is the definition's, which reads the whole list
+tested : (s : List ℕ) (n : ℕ) (t : Bool) → n ≤ length s → (IsTrue t ↔ EachIndex (take n s) (λ k. (1 ≤ get_or (take n s) k 0) × (get_or (take n s) k 0 ≤ 15)))
+    → t ≡ every n (λ k. is_number (get_or s k 0))
+tested s n true l w =
+    let e = length-take-le n s l in
+    sym (every_complete n (λ k. is_number (get_or s k 0)) (λ i h. let (p, q) = rw (get_or-take n s i 0 h) at (w.0 refl i (omega arith)) in rw (le-leb 1 (get_or s i 0) p, le-leb (get_or s i 0) 15 q)))
+tested s n false l w =
+    let e = length-take-le n s l in
+    go (every n (λ k. is_number (get_or s k 0))) refl
+  where
+    go : (u : Bool) → every n (λ k. is_number (get_or s k 0)) ≡ u → false ≡ u
+    go true a = w.1 (λ i h. let j : i < n = omega (arith, length-take-le n s l) in rw (get_or-take n s i 0 j) (bounds (get_or s i 0) (every_sound n (λ k. is_number (get_or s k 0)) a i j)))
+    go false a = refl
 
 pub returns : goal.returns
-unfolding every_from
 returns c =
-    let e : c.args.count - c.loop-n.n ≡ 0 = omega arith in
-    sym (c.loop-n.invariant.1 ∙ rw e)
+    let b = take c.args.count c.args.bytes.now in
+    let w : IsTrue c.all.result ↔ EachIndex b (λ k. (1 ≤ get_or b k 0) × (get_or b k 0 ≤ 15)) = search rules in
+    tested c.args.bytes.now c.args.count c.all.result c.requires w

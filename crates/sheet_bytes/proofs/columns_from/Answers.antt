@@ -20,4 +20,4 @@ whole bytes at sign columns₀ columns l m f =
 pub returns : goal.returns
 returns c =
     let e : c.loop-c.c ≡ 6 = omega arith in
-    whole c.args.bytes.now (length c.args.bytes.now - 7) c.args.sign _ c.loop-c.columns (omega (arith, c.requires)) refl (rw e at c.loop-c.invariant.1)
+    whole c.args.bytes.now (length c.args.bytes.now - 7) c.args.sign _ c.loop-c.columns (omega (arith, c.requires)) refl (rw e at c.loop-c.invariant)

@@ -1,5 +1,5 @@
 -- The invariant: the columns before c are copied, times the sign.
-use Prim.Native.Nat.{ℕ, ◌+◌, ◌-◌, ◌≤◌}
+use Prim.Native.Nat.{ℕ, ◌+◌}
 use mathlib.Core.List.{List}
 use lib.ListN.{get_or}
 use Rattle.matrix.specs.Laws.Range.{Filled}
@@ -11,7 +11,4 @@ abbrev pub byte : List ℕ → ℕ → ℕ → ℕ → ℕ
 byte bytes at sign c = signed_byte sign (get_or bytes (at + c) 0)
 
 abbrev pub invariant-loop-c : goal.invariant-loop-c
-invariant-loop-c l = (l.c ≤ 6) × Filled 0 (byte l.bytes l.at l.sign) l.initial.columns l.c l.columns
-
-abbrev pub decreases-loop-c : goal.decreases-loop-c
-decreases-loop-c l = 6 - l.c
+invariant-loop-c l = Filled 0 (byte l.bytes l.at l.sign) l.initial.columns l.c l.columns

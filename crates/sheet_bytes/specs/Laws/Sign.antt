@@ -2,7 +2,7 @@
 use Rattle.std.specs.Prelude.{◌≡◌, refl, ℕ, zero, suc, ◌-◌, ◌<◌, ℤ, negsuc, ◌*ℤ◌, List, Bool, true, false, cond, get_or}
 use Rattle.std.proofs.Common.{sym, ap, ◌∙◌, arith}
 use Rattle.matrix.specs.Matrix.{scaled, entry, listed}
-use Rattle.matrix.specs.Operator.{Operator, operator, Orthogonal}
+use Rattle.matrix.specs.Operator.{Operator, Orthogonal}
 use Rattle.matrix.specs.Laws.Integer.{*ℤ-unit-l}
 use Rattle.matrix.specs.Laws.Operator.{same_orthogonal}
 use Rattle.matrix.specs.Laws.Array.{entry_listed, listed_cong, listed_same}

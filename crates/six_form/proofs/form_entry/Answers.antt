@@ -27,7 +27,10 @@ unit_conj : {x y : Gaussian} → x ≡ conj y → Within 1 y → Within 1 x
 unit_conj e h = subst (Within 1) (sym e) (within_conj h)
 
 pub plus-requires : goal.plus-requires
-plus-requires c = (within_more (omega arith) ((let left' : Within (2 ^ 35) c.times-left.result = subst (Within (2 ^ 35)) (sym c.times-left.ensures) (within-⊗ (unit_conj c.conjugate.ensures.0 c.lower.ensures.1) c.half_entry.ensures.1) in left')), within_more (omega arith) ((let right' : Within (2 ^ 35) c.times-right.result = subst (Within (2 ^ 35)) (sym c.times-right.ensures) (within-⊗ (unit_conj c.conjugate-2.ensures.0 c.upper.ensures.1) c.half_entry-2.ensures.1) in right')))
+plus-requires c = (
+  within_more (omega arith) (subst (Within (2 ^ 35)) (sym c.times-left.ensures) (within-⊗ (unit_conj c.conjugate.ensures.0 c.lower.ensures.1) c.half_entry.ensures.1)),
+  within_more (omega arith) (subst (Within (2 ^ 35)) (sym c.times-right.ensures) (within-⊗ (unit_conj c.conjugate-2.ensures.0 c.upper.ensures.1) c.half_entry-2.ensures.1)),
+)
 
 pub returns : goal.returns
 returns c =
@@ -38,5 +41,5 @@ returns c =
           (c.times-left.ensures ∙ first_term a.n.now a.r a.c _ e c.conjugate.ensures.0 c.lower.ensures.0 c.half_entry.ensures.0)
           (c.times-right.ensures ∙ second_term a.n.now a.r a.c _ e c.conjugate-2.ensures.0 c.upper.ensures.0 c.half_entry-2.ensures.0)
           ∙ sym (whole_entry (product 6 (compound (matrix_of a.n.now)) basis) a.r a.c c.requires.0),
-      subst (Within (2 ^ 36)) (sym c.plus.ensures) (within-⊕ ((let left' : Within (2 ^ 35) c.times-left.result = subst (Within (2 ^ 35)) (sym c.times-left.ensures) (within-⊗ (unit_conj c.conjugate.ensures.0 c.lower.ensures.1) c.half_entry.ensures.1) in left')) ((let right' : Within (2 ^ 35) c.times-right.result = subst (Within (2 ^ 35)) (sym c.times-right.ensures) (within-⊗ (unit_conj c.conjugate-2.ensures.0 c.upper.ensures.1) c.half_entry-2.ensures.1) in right'))),
+      subst (Within (2 ^ 36)) (sym c.plus.ensures) (within-⊕ (subst (Within (2 ^ 35)) (sym c.times-left.ensures) (within-⊗ (unit_conj c.conjugate.ensures.0 c.lower.ensures.1) c.half_entry.ensures.1)) (subst (Within (2 ^ 35)) (sym c.times-right.ensures) (within-⊗ (unit_conj c.conjugate-2.ensures.0 c.upper.ensures.1) c.half_entry-2.ensures.1))),
     )

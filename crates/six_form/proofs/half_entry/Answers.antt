@@ -23,7 +23,10 @@ second_term : (n : List ℤ) (p c q : ℕ) {x y : Gaussian} → q ≡ place_of c
 second_term n p c q e f g = ap₂ (λ x y. x ⊗ y) f (g ∙ ap (λ q. C n p (5 - q)) e)
 
 pub plus-requires : goal.plus-requires
-plus-requires c = (within_more (omega arith) ((let left' : Within (2 ^ 33) c.times-left.result = subst (Within (2 ^ 33)) (sym c.times-left.ensures) (within-⊗ c.lower.ensures.1 c.minor.ensures.1) in left')), within_more (omega arith) ((let right' : Within (2 ^ 33) c.times-right.result = subst (Within (2 ^ 33)) (sym c.times-right.ensures) (within-⊗ c.upper.ensures.1 c.minor-2.ensures.1) in right')))
+plus-requires c = (
+  within_more (omega arith) (subst (Within (2 ^ 33)) (sym c.times-left.ensures) (within-⊗ c.lower.ensures.1 c.minor.ensures.1)),
+  within_more (omega arith) (subst (Within (2 ^ 33)) (sym c.times-right.ensures) (within-⊗ c.upper.ensures.1 c.minor-2.ensures.1)),
+)
 
 pub returns : goal.returns
 returns c =
@@ -34,5 +37,5 @@ returns c =
           (c.times-left.ensures ∙ first_term a.n.now a.p a.c _ e c.lower.ensures.0 c.minor.ensures.0)
           (c.times-right.ensures ∙ second_term a.n.now a.p a.c _ e c.upper.ensures.0 c.minor-2.ensures.0)
           ∙ sym (half_entry (compound (matrix_of a.n.now)) a.p a.c c.requires.1),
-      subst (Within (2 ^ 34)) (sym c.plus.ensures) (within-⊕ ((let left' : Within (2 ^ 33) c.times-left.result = subst (Within (2 ^ 33)) (sym c.times-left.ensures) (within-⊗ c.lower.ensures.1 c.minor.ensures.1) in left')) ((let right' : Within (2 ^ 33) c.times-right.result = subst (Within (2 ^ 33)) (sym c.times-right.ensures) (within-⊗ c.upper.ensures.1 c.minor-2.ensures.1) in right'))),
+      subst (Within (2 ^ 34)) (sym c.plus.ensures) (within-⊕ (subst (Within (2 ^ 33)) (sym c.times-left.ensures) (within-⊗ c.lower.ensures.1 c.minor.ensures.1)) (subst (Within (2 ^ 33)) (sym c.times-right.ensures) (within-⊗ c.upper.ensures.1 c.minor-2.ensures.1))),
     )

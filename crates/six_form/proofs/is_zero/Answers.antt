@@ -1,30 +1,26 @@
-use mathlib.Core.Path.{◌≡◌, refl, sym, ap, ◌∙◌}
-use Prim.Native.Nat.{◌-◌}
+use mathlib.Core.Path.{◌≡◌, refl, ◌∙◌}
+use Prim.Native.Nat.{◌+◌}
 use native.Mathlib.Omega.{arith}
-use lib.IntN.{pos}
-use lib.ListN.{get_or}
+use mathlib.Core.Bool.{Bool}
+use lib.IntN.{ℤ, pos}
+use lib.ListN.{length, get_or}
 use borrow.Author.Rules.{rules}
-use borrow.Author.Tests.{not-true, not-false}
-use Rattle.matrix.specs.Range.{every_from}
+use borrow.Author.Tests.{tests}
+use Rattle.std.proofs.lemmas.Iterator.{YieldsList-from_slice}
+use Rattle.std.proofs.lemmas.Iterator.Search.{all_from_yields_List}
 use Rattle.matrix.specs.Integer.{equals}
-use Rattle.matrix.specs.Laws.Range.{every_next, every_stop}
-use Rattle.matrix.specs.Laws.Machine.{kept}
+use Rattle.matrix.proofs.Chains.{every_place}
 use Rattle.six_form.specs.Places.{is_zero}
-use Rattle.six_form.proofs.is_zero.Invariants.{zero_at_lem}
 use Rattle.six_form.proofs.is_zero.Goals as goal
 
-pub loop-i-init : goal.loop-i-init
-unfolding is_zero
-loop-i-init c = (search rules, refl)
-
-pub returns-then-not-equals_zero : goal.returns-then-not-equals_zero
-returns-then-not-equals_zero c =
-    sym (c.loop-i.invariant.1 ∙ every_stop (zero_at_lem c.args.m.now) 36 c.loop-i.i (omega arith) (sym ((let tested' : c.equals_zero.result ≡ zero_at_lem c.args.m.now c.loop-i.i = c.equals_zero.ensures ∙ ap (λ x. equals x (pos 0)) (kept {z = get_or c.args.m.now c.loop-i.i (pos 0)} c.equals_zero-arg-1.given) in tested')) ∙ not-true _ c.if-not-equals_zero.true-raw))
-
-pub loop-i-preserved : goal.loop-i-preserved
-loop-i-preserved c =
-    (search rules, c.loop-i.invariant.1 ∙ every_next (zero_at_lem c.args.m.now) 36 c.loop-i.i (omega arith) (sym ((let tested' : c.equals_zero.result ≡ zero_at_lem c.args.m.now c.loop-i.i = c.equals_zero.ensures ∙ ap (λ x. equals x (pos 0)) (kept {z = get_or c.args.m.now c.loop-i.i (pos 0)} c.equals_zero-arg-1.given) in tested')) ∙ not-false _ c.if-not-equals_zero.false-raw))
+-- whether a number is 0
+abbrev none : ℤ → Bool
+none x = equals x (pos 0)
 
 pub returns : goal.returns
-unfolding every_from
-returns c = let e : 36 - c.loop-i.i ≡ 0 = omega arith in sym (c.loop-i.invariant.1 ∙ rw e)
+unfolding is_zero
+returns c =
+    let m = c.args.m.now in
+    let l : length m ≡ 36 = search rules in
+    let e = every_place (λ i. none (get_or m i (pos 0))) none (pos 0) 0 m (λ i h. let z : 0 + i ≡ i = omega arith in rw z refl) in
+    all_from_yields_List none _ _ _ c.all.ensures.ran (YieldsList-from_slice m cc) (λ x b q k. search (rules, tests)) ∙ (rw l at e)

@@ -8,4 +8,4 @@ pub returns : goal.returns
 unfolding listed
 returns c =
     let e : c.loop-i.i ≡ 36 = omega arith in
-    record { re = filled_all _ _ _ 36 _ (rw e at c.loop-i.invariant.1) refl; im = filled_all _ _ _ 36 _ (rw e at c.loop-i.invariant.2) refl }
+    record { re = filled_all _ _ _ 36 _ (rw e at c.loop-i.invariant.0) refl; im = filled_all _ _ _ 36 _ (rw e at c.loop-i.invariant.1) refl }

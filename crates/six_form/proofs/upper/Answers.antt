@@ -1,22 +1,17 @@
 -- The table is the basis.
 use mathlib.Core.Path.{◌≡◌, refl, sym, subst}
-use mathlib.Core.List.{List, [], ◌∷◌}
+use mathlib.Core.List.{[], ◌∷◌}
 use Prim.Native.Nat.{ℕ, zero, suc, ◌-◌, ◌<◌}
 use native.Mathlib.Omega.{arith}
-use lib.IntN.{ℤ, pos, negsuc}
+use lib.IntN.{pos, negsuc}
 use lib.ListN.{get_or}
-use mir.Syntax.{w64}
-use mir.Val.{to_z, of_z}
-use Rattle.gaussian.specs.Gaussian.{gaussian, Within}
+use Rattle.gaussian.specs.Gaussian.{gaussian, real, unit, Within}
 use Rattle.unitary.specs.Form.{basis}
 use Rattle.six_form.specs.Places.{place_of}
 use Rattle.six_form.specs.Laws.Places.{place_lt, basis_within}
 use Rattle.six_form.proofs.upper.Goals as goal
 
-abbrev stored : List ℤ → ℕ → ℤ
-stored xs c = to_z w64 (of_z w64 (get_or xs c (pos 0)))
-
-table : (c : ℕ) → c < 6 → gaussian (stored (pos 0 ∷ pos 1 ∷ pos 0 ∷ pos 1 ∷ pos 0 ∷ pos 1 ∷ []) c) (stored (negsuc 0 ∷ pos 0 ∷ pos 1 ∷ pos 0 ∷ pos 1 ∷ pos 0 ∷ []) c) ≡ basis (5 - place_of c) c
+table : (c : ℕ) → c < 6 → get_or (gaussian (pos 0) (negsuc 0) ∷ real (pos 1) ∷ unit ∷ real (pos 1) ∷ unit ∷ real (pos 1) ∷ []) c (real (pos 0)) ≡ basis (5 - place_of c) c
 unfolding basis
 table zero l = refl
 table (suc zero) l = refl

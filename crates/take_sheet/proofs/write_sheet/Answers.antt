@@ -1,4 +1,5 @@
 -- What is written is that of the refusal, or the part.
+use Rattle.std.specs.Prelude.{◌≡◌}
 use mathlib.Core.Path.{sym, ap, ◌∙◌}
 use mathlib.Core.List.{[], ◌∷◌}
 use native.Mathlib.Omega.{arith}
@@ -11,21 +12,20 @@ use Rattle.take_sheet.specs.Output.{sheet_output}
 use Rattle.take_sheet.proofs.write_sheet.Goals as goal
 
 pub write_refused-requires : goal.write_refused-requires
-write_refused-requires c = let l = line_length refused_word (c.bundle_refusal-refusal.result ∷ []) in omega arith
+write_refused-requires c = let l = line_length refused_word (c.number.result ∷ []) in omega arith
 
-pub returns-then-refusal-ne0 : goal.returns-then-refusal-ne0
+pub returns-in-Err : goal.returns-in-Err
 unfolding sheet_output
-returns-then-refusal-ne0 c =
-    let e = c.bundle_refusal-refusal.ensures in
-    let l = line_length refused_word (c.bundle_refusal-refusal.result ∷ []) in
+returns-in-Err c =
+    let (e, h) = c.number.ensures in
+    let f : c.number.result ≡ bundle_refusal c.args.bundle.now c.args.n = e ∙ c.in-Err.ensures in
+    let l = line_length refused_word (c.number.result ∷ []) in
     let a = c.write_refused.ensures in
-    (appended_as (ap refused_line e ∙ rw (ne_eqb (bundle_refusal _ _) 0 (λ z. c.if-refusal-ne0.true (e ∙ z)))) a, within a (omega arith))
+    (appended_as (ap refused_line f ∙ rw (ne_eqb (bundle_refusal c.args.bundle.now c.args.n) 0 (λ z. omega arith))) a, within a (omega arith))
 
-pub returns : goal.returns
+pub returns-in-Ok : goal.returns-in-Ok
 unfolding sheet_output
-returns c =
-    let b = c.args.bundle.now in
-    let n = c.args.n in
-    let e = sym c.bundle_refusal-refusal.ensures ∙ c.if-refusal-ne0.false in
+returns-in-Ok c =
     let a = c.write_bytes.ensures in
-    (appended_as (c.bundle_sheet-sheet.ensures.0 ∙ rw (eq-eqb (bundle_refusal b n) 0 e)) a, within a (let l = c.bundle_sheet-sheet.ensures.1 in omega arith))
+    let (s, l, _) = c.bundle_sheet.ensures in
+    (appended_as (s ∙ rw (eq-eqb (bundle_refusal _ _) 0 (sym c.in-Ok.ensures))) a, within a (omega arith))

@@ -1,11 +1,11 @@
-use mathlib.Core.Path.{◌≡◌, refl}
-use native.Mathlib.Omega.{arith}
-use Rattle.matrix.specs.Matrix.{listed}
-use Rattle.matrix.specs.Laws.Range.{filled_all}
+use Prim.Native.Nat.{◌/◌, ◌%◌}
+use lib.IntN.{pos}
+use borrow.Author.Rules.{rules}
+use borrow.Author.Tests.{tests}
+use Rattle.matrix.specs.Matrix.{δ, listed}
+use Rattle.matrix.proofs.Chains.{made}
 use Rattle.times.proofs.identity.Goals as goal
 
 pub returns : goal.returns
 unfolding listed
-returns c =
-    let e : c.loop-n.n ≡ 36 = omega arith in
-    filled_all _ _ _ 36 _ (rw e at c.loop-n.invariant.1) refl
+returns c = made _ (λ n. δ (n / 6) (n % 6)) (pos 0) c.from_fn.result (λ x y q k. search (rules, tests)) 36 c.from_fn.ensures.items

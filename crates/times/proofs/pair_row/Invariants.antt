@@ -1,5 +1,5 @@
 -- The invariant: the columns before c of row r are written.
-use Prim.Native.Nat.{ℕ, ◌-◌, ◌≤◌}
+use Prim.Native.Nat.{ℕ}
 use mathlib.Core.List.{List}
 use lib.IntN.{ℤ}
 use lib.ListN.{get_or}
@@ -13,7 +13,4 @@ abbrev pub pair_at : List ℤ → List ℕ → ℕ → ℕ → ℤ
 pair_at m ps r c = pair_entry (entry m) r c (get_or ps c 0)
 
 abbrev pub invariant-loop-c : goal.invariant-loop-c
-invariant-loop-c l = (l.c ≤ 6) × RowDone l.r (pair_at l.m l.partners l.r) l.initial.out l.c l.out
-
-abbrev pub decreases-loop-c : goal.decreases-loop-c
-decreases-loop-c l = 6 - l.c
+invariant-loop-c l = RowDone l.r (pair_at l.m l.partners l.r) l.initial.out l.c l.out

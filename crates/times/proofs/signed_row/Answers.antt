@@ -3,8 +3,6 @@ use native.Mathlib.Omega.{arith}
 use Rattle.matrix.specs.Laws.Rows.{row_more, row_all}
 use Rattle.matrix.specs.Laws.Machine.{kept}
 use Rattle.clifford.specs.Laws.Columns.{permutation_sound}
-use Rattle.times.specs.Times.{signed_entry}
-use borrow.Author.Rules.{rules}
 use Rattle.times.proofs.signed_row.Goals as goal
 
 pub signed_entry-requires : goal.signed_entry-requires
@@ -13,7 +11,7 @@ signed_entry-requires c =
 
 pub loop-c-preserved : goal.loop-c-preserved
 loop-c-preserved c =
-    (search rules, row_more _ _ _ c.requires.0 c.loop-c.c c.loop-c.out _ (omega arith) c.loop-c.invariant.1 (kept c.signed_entry.type_inv ∙ c.signed_entry.ensures))
+    row_more _ _ _ c.requires.0 c.loop-c.c c.loop-c.out _ (omega arith) c.loop-c.invariant (kept c.signed_entry.type_inv ∙ c.signed_entry.ensures)
 
 pub returns : goal.returns
-returns c = row_all _ _ _ c.requires.0 c.loop-c.c c.loop-c.out (omega arith) c.loop-c.invariant.1
+returns c = row_all _ _ _ c.requires.0 c.loop-c.c c.loop-c.out (omega arith) c.loop-c.invariant

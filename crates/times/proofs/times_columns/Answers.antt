@@ -9,9 +9,9 @@ use Rattle.times.proofs.times_columns.Goals as goal
 
 pub loop-r-preserved : goal.loop-r-preserved
 loop-r-preserved c =
-    (omega arith, rows_more _ c.loop-r.r c.loop-r.out _ (omega arith) c.loop-r.invariant.1 c.signed_row.ensures)
+    rows_more _ c.loop-r.r c.loop-r.out _ (omega arith) c.loop-r.invariant c.signed_row.ensures
 
 pub returns : goal.returns
 returns c =
-    rows_all _ c.loop-r.r c.loop-r.out (omega arith) c.loop-r.invariant.1
+    rows_all _ c.loop-r.r c.loop-r.out (omega arith) c.loop-r.invariant
     ∙ sym (listed_cong _ _ (times_columns_lem c.args.columns (permutation_sound c.args.columns c.requires.0) (entry c.args.m)))

@@ -1,5 +1,5 @@
 -- The invariant: the rows before r are those of the product.
-use Prim.Native.Nat.{ℕ, ◌-◌, ◌≤◌}
+use Prim.Native.Nat.{ℕ}
 use mathlib.Core.List.{List}
 use lib.IntN.{ℤ}
 use lib.ListN.{get_or}
@@ -12,7 +12,4 @@ abbrev pub signed_matrix_lem : List ℤ → List ℕ → Matrix
 signed_matrix_lem m bs r c = signed_entry (entry m) r (get_or bs c 0)
 
 abbrev pub invariant-loop-r : goal.invariant-loop-r
-invariant-loop-r l = (l.r ≤ 6) × RowsDone (signed_matrix_lem l.m l.columns) l.r l.out
-
-abbrev pub decreases-loop-r : goal.decreases-loop-r
-decreases-loop-r l = 6 - l.r
+invariant-loop-r l = RowsDone (signed_matrix_lem l.m l.columns) l.r l.out

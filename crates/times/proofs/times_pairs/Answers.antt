@@ -4,7 +4,7 @@ use Rattle.times.proofs.times_pairs.Goals as goal
 
 pub loop-r-preserved : goal.loop-r-preserved
 loop-r-preserved c =
-    (omega arith, rows_more _ c.loop-r.r c.loop-r.out _ (omega arith) c.loop-r.invariant.1 c.pair_row.ensures)
+    rows_more _ c.loop-r.r c.loop-r.out _ (omega arith) c.loop-r.invariant c.pair_row.ensures
 
 pub returns : goal.returns
-returns c = rows_all _ c.loop-r.r c.loop-r.out (omega arith) c.loop-r.invariant.1
+returns c = rows_all _ c.loop-r.r c.loop-r.out (omega arith) c.loop-r.invariant

@@ -1,6 +1,6 @@
 -- The invariant: the rows before r are those of the product.
 use mathlib.Core.List.{List}
-use Prim.Native.Nat.{ℕ, ◌-◌, ◌≤◌}
+use Prim.Native.Nat.{ℕ}
 use lib.IntN.{ℤ}
 use lib.ListN.{get_or}
 use Rattle.matrix.specs.Matrix.{Matrix, entry}
@@ -12,7 +12,4 @@ abbrev pub pair_matrix : List ℤ → List ℕ → Matrix
 pair_matrix m ps r c = pair_entry (entry m) r c (get_or ps c 0)
 
 abbrev pub invariant-loop-r : goal.invariant-loop-r
-invariant-loop-r l = (l.r ≤ 6) × RowsDone (pair_matrix l.m l.partners) l.r l.out
-
-abbrev pub decreases-loop-r : goal.decreases-loop-r
-decreases-loop-r l = 6 - l.r
+invariant-loop-r l = RowsDone (pair_matrix l.m l.partners) l.r l.out

@@ -1,11 +1,17 @@
--- By the two cases.
-use mathlib.Core.Path.{sym, ap, ◌∙◌}
+use mathlib.Core.Path.{◌≡◌, refl}
+use mathlib.Core.Bool.{Bool, true, false, cond}
+use lib.Dec.{eqb}
+use lib.IntN.{pos}
+use mir.Syntax.{w64}
+use mir.Val.{to_z, bool_byte}
 use Rattle.matrix.specs.Matrix.{δ}
-use Rattle.matrix.specs.Laws.Sum.{δ_same, δ_other}
 use Rattle.times.proofs.unit.Goals as goal
 
-pub returns-then-r-c : goal.returns-then-r-c
-returns-then-r-c c = sym (ap (δ c.args.r) (sym c.if-r-c.true) ∙ δ_same c.args.r)
+-- a test as a number
+by_test : (b : Bool) → to_z w64 (bool_byte b) ≡ cond b (pos 1) (pos 0)
+by_test true = refl
+by_test false = refl
 
 pub returns : goal.returns
-returns c = sym (δ_other c.args.r c.args.c c.if-r-c.false)
+unfolding δ
+returns c = by_test (eqb c.args.r c.args.c)

@@ -1,37 +1,30 @@
-use mathlib.Core.Path.{◌≡◌, refl, sym, ◌∙◌}
-use Prim.Native.Nat.{◌-◌, ◌^◌}
-use native.Mathlib.Omega.{arith}
-use lib.IntN.{pos}
+use mathlib.Core.Path.{refl, ap, ◌∙◌}
+use Prim.Native.Nat.{ℕ, ◌/◌, ◌%◌}
+use mathlib.Core.Bool.{Bool}
+use mathlib.Core.List.{List}
+use lib.IntN.{ℤ}
+use lib.Signed.{le_z}
 use borrow.Author.Rules.{rules}
-use Rattle.matrix.specs.Range.{every_from}
-use Rattle.matrix.specs.Laws.Integer.{above→not_le, not_above→le}
-use Rattle.matrix.specs.Laws.Range.{every_next, every_stop}
+use borrow.Author.Tests.{tests}
+use Rattle.std.proofs.lemmas.Iterator.{YieldsList-from_range}
+use Rattle.std.proofs.lemmas.Iterator.Search.{all_from_yields_List}
+use Rattle.matrix.specs.Range.{every}
 use Rattle.matrix.specs.Laws.Machine.{kept}
+use Rattle.matrix.proofs.Chains.{every_in}
+use Rattle.gaussian.specs.Gaussian.{norm_of}
+use Rattle.unitary.specs.Unitary.{matrix_of}
 use Rattle.unitary_file.specs.Unitary.{is_small}
-use Rattle.unitary_file.proofs.is_small.Invariants.{small_at, size_at}
 use Rattle.unitary_file.proofs.is_small.Goals as goal
 
-pub loop-p-init : goal.loop-p-init
-unfolding is_small
-loop-p-init c = (search rules, kept c.power_of_two-limit.type_inv ∙ c.power_of_two-limit.ensures, refl)
-
-pub returns-then-limit-square_size : goal.returns-then-limit-square_size
-returns-then-limit-square_size c =
-    let a = c.args in
-    let e = kept c.square_size.type_inv ∙ c.square_size.ensures in
-    sym (c.loop-p.invariant.2 ∙ every_stop (small_at a.k a.n.now) 16 c.loop-p.p (omega arith)
-    (above→not_le (size_at a.n.now c.loop-p.p) (pos (2 ^ a.k)) (rw (c.loop-p.invariant.1, e) at c.if-limit-square_size.true)))
-
-pub loop-p-preserved : goal.loop-p-preserved
-loop-p-preserved c =
-    let a = c.args in
-    let e = kept c.square_size.type_inv ∙ c.square_size.ensures in (
-      search rules,
-      c.loop-p.invariant.1,
-      c.loop-p.invariant.2 ∙ every_next (small_at a.k a.n.now) 16 c.loop-p.p (omega arith)
-          (not_above→le (size_at a.n.now c.loop-p.p) (pos (2 ^ a.k)) (rw (c.loop-p.invariant.1, e) at c.if-limit-square_size.false)),
-    )
+-- whether entry p is small
+abbrev small_at : ℤ → List ℤ → ℕ → Bool
+small_at limit n p = le_z (norm_of (matrix_of n (p / 4) (p % 4))) limit
 
 pub returns : goal.returns
-unfolding every_from
-returns c = let e : 16 - c.loop-p.p ≡ 0 = omega arith in sym (c.loop-p.invariant.2 ∙ rw e)
+unfolding is_small
+returns c =
+    let n = c.args.n.now in
+    let q = c.power_of_two-limit in
+    all_from_yields_List (small_at q.result n) _ _ _ c.all.ensures.ran (YieldsList-from_range 0 16 16 refl refl) (λ x b r k. search (rules, tests, kept {z = q.result} q.type_inv))
+    ∙ every_in (small_at q.result n) 0 16
+    ∙ ap (λ limit. every 16 (small_at limit n)) q.ensures

@@ -8,39 +8,36 @@ use Rattle.unitary_file.specs.Laws.Reading.{wrong_length, wrong_exponent, entry_
 use Rattle.unitary_file.proofs.read_unitary.Goals as goal
 
 pub returns-then-bytes-ne-UNITARY_LENGTH : goal.returns-then-bytes-ne-UNITARY_LENGTH
-returns-then-bytes-ne-UNITARY_LENGTH c = refused_as _ c.refused.result 17 (wrong_length _ c.if-bytes-ne-UNITARY_LENGTH.true) (omega arith) c.refused.ensures
+returns-then-bytes-ne-UNITARY_LENGTH c = refused_as _ _ (wrong_length _ c.if-bytes-ne-UNITARY_LENGTH.true) (omega arith)
 
-pub returns-then-k-gt-LARGEST_UNITARY : goal.returns-then-k-gt-LARGEST_UNITARY
-returns-then-k-gt-LARGEST_UNITARY c = refused_as _ c.refused-then-k-gt-LARGEST_UNITARY.result 17 (wrong_exponent _ c.if-bytes-ne-UNITARY_LENGTH.false c.if-k-gt-LARGEST_UNITARY.true) (omega arith) c.refused-then-k-gt-LARGEST_UNITARY.ensures
+pub returns-then-exponent-gt-LARGEST_UNITARY : goal.returns-then-exponent-gt-LARGEST_UNITARY
+returns-then-exponent-gt-LARGEST_UNITARY c = refused_as _ _ (wrong_exponent _ c.if-bytes-ne-UNITARY_LENGTH.false c.if-exponent-gt-LARGEST_UNITARY.true) (omega arith)
 
 pub is_small-requires : goal.is_small-requires
-is_small-requires c = (omega arith, rw c.decode-n.ensures (entries_narrow _ (λ i. (c.shared_slice_known-1.given i).fits)))
+is_small-requires c = (omega arith, rw c.decode-entries.ensures (entries_narrow _ (λ i. (c.shared_slice_known-1.given i).fits)))
 
 pub returns-then-not-is_small : goal.returns-then-not-is_small
 returns-then-not-is_small c =
     let k = get_or c.args.bytes.now 0 0 in
-    let small = sym (c.is_small.ensures ∙ ap (λ n. is_small k (matrix_of n)) c.decode-n.ensures) ∙ not-true _ c.if-not-is_small.true-raw in
-    refused_as _ c.refused-then-not-is_small.result 18 (entry_too_large _ c.if-bytes-ne-UNITARY_LENGTH.false c.if-k-gt-LARGEST_UNITARY.false small) (omega arith) c.refused-then-not-is_small.ensures
+    let small = sym (c.is_small.ensures ∙ ap (λ n. is_small k (matrix_of n)) c.decode-entries.ensures) ∙ not-true _ c.if-not-is_small.true-raw in
+    refused_as _ _ (entry_too_large _ c.if-bytes-ne-UNITARY_LENGTH.false c.if-exponent-gt-LARGEST_UNITARY.false small) (omega arith)
 
 pub is_unitary-requires : goal.is_unitary-requires
 is_unitary-requires c =
-    (omega arith, rw c.decode-n.ensures (entries_narrow _ (λ i. (c.shared_slice_known-1.given i).fits)))
+    (omega arith, rw c.decode-entries.ensures (entries_narrow _ (λ i. (c.shared_slice_known-1.given i).fits)))
 
 pub returns-then-not-is_unitary : goal.returns-then-not-is_unitary
 returns-then-not-is_unitary c =
     let k = get_or c.args.bytes.now 0 0 in
-    let small = sym (c.is_small.ensures ∙ ap (λ n. is_small k (matrix_of n)) c.decode-n.ensures) ∙ not-false _ c.if-not-is_small.false-raw in
-    let unitary = sym (c.is_unitary.ensures ∙ ap (λ n. is_unitary k (matrix_of n)) c.decode-n.ensures) ∙ not-true _ c.if-not-is_unitary.true-raw in
-    refused_as _ c.refused-then-not-is_unitary.result 19 (not_unitary _ c.if-bytes-ne-UNITARY_LENGTH.false c.if-k-gt-LARGEST_UNITARY.false small unitary) (omega arith) c.refused-then-not-is_unitary.ensures
+    let small = sym (c.is_small.ensures ∙ ap (λ n. is_small k (matrix_of n)) c.decode-entries.ensures) ∙ not-false _ c.if-not-is_small.false-raw in
+    let unitary = sym (c.is_unitary.ensures ∙ ap (λ n. is_unitary k (matrix_of n)) c.decode-entries.ensures) ∙ not-true _ c.if-not-is_unitary.true-raw in
+    refused_as _ _ (not_unitary _ c.if-bytes-ne-UNITARY_LENGTH.false c.if-exponent-gt-LARGEST_UNITARY.false small unitary) (omega arith)
 
 pub returns : goal.returns
 returns c =
     let k = get_or c.args.bytes.now 0 0 in
-    let small = sym (c.is_small.ensures ∙ ap (λ n. is_small k (matrix_of n)) c.decode-n.ensures) ∙ not-false _ c.if-not-is_small.false-raw in
-    let unitary = sym (c.is_unitary.ensures ∙ ap (λ n. is_unitary k (matrix_of n)) c.decode-n.ensures) ∙ not-false _ c.if-not-is_unitary.false-raw in
-    record {
-      refusal = sym (taken_in _ c.if-bytes-ne-UNITARY_LENGTH.false c.if-k-gt-LARGEST_UNITARY.false small unitary);
-      exponent = λ z. refl;
-      entries = λ z. c.decode-n.ensures;
-      narrow = λ z. rw c.decode-n.ensures (entries_narrow _ (λ i. (c.shared_slice_known-1.given i).fits));
-    }
+    let small = sym (c.is_small.ensures ∙ ap (λ n. is_small k (matrix_of n)) c.decode-entries.ensures) ∙ not-false _ c.if-not-is_small.false-raw in
+    let unitary = sym (c.is_unitary.ensures ∙ ap (λ n. is_unitary k (matrix_of n)) c.decode-entries.ensures) ∙ not-false _ c.if-not-is_unitary.false-raw in (
+      taken_in _ c.if-bytes-ne-UNITARY_LENGTH.false c.if-exponent-gt-LARGEST_UNITARY.false small unitary,
+      record { exponent = refl; entries = c.decode-entries.ensures; narrow = rw c.decode-entries.ensures (entries_narrow _ (λ i. (c.shared_slice_known-1.given i).fits)) },
+    )

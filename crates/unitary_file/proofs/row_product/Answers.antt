@@ -1,8 +1,7 @@
-use mathlib.Core.Path.{sym, ap₂, subst, ◌∙◌}
+use mathlib.Core.Path.{refl, sym, ap₂, subst, ◌∙◌}
 use Prim.Native.Nat.{◌^◌}
 use native.Mathlib.Numerals.{add-one}
 use native.Mathlib.Omega.{arith}
-use borrow.Author.Rules.{rules}
 use Rattle.gaussian.specs.Gaussian as gaussian
 use Rattle.gaussian.specs.Gaussian.{Within, ◌⊕◌, ◌⊗◌}
 use Rattle.gaussian.specs.Laws.Size.{within_more, within-⊗}
@@ -11,11 +10,11 @@ use Rattle.unitary_file.proofs.row_product.Goals as goal
 
 pub loop-c-init : goal.loop-c-init
 unfolding gaussian.sum
-loop-c-init c = search rules
+loop-c-init c = refl
 
 pub plus-sum-requires : goal.plus-sum-requires
 plus-sum-requires c = (
-  within_more (omega arith) (subst (Within (2 ^ 33)) (sym c.loop-c.invariant.1) (terms_within c.args.n.now c.requires.2 c.args.i c.args.j c.loop-c.c c.loop-c.invariant.0)),
+  within_more (omega arith) (subst (Within (2 ^ 33)) (sym c.loop-c.invariant) (terms_within c.args.n.now c.requires.2 c.args.i c.args.j c.loop-c.c (omega arith))),
   within_more (omega arith) (subst (Within (2 ^ 31)) (sym c.times.ensures) (within-⊗ c.entry_of-x.ensures.1 c.conjugate_of-y.ensures.1)),
 )
 
@@ -23,4 +22,4 @@ pub loop-c-preserved : goal.loop-c-preserved
 unfolding gaussian.sum
 loop-c-preserved c =
     let e = c.times.ensures ∙ ap₂ (λ x y. x ⊗ y) c.entry_of-x.ensures.0 c.conjugate_of-y.ensures.0 in
-    (search rules, rw add-one (c.plus-sum.ensures ∙ ap₂ (λ x y. x ⊕ y) c.loop-c.invariant.1 e))
+    rw add-one (c.plus-sum.ensures ∙ ap₂ (λ x y. x ⊕ y) c.loop-c.invariant e)

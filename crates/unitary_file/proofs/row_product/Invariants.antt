@@ -1,13 +1,9 @@
 -- The invariant: `sum` is the sum of the first c products.
 use mathlib.Core.Path.{◌≡◌}
-use Prim.Native.Nat.{◌-◌, ◌≤◌}
 use Rattle.gaussian.specs.Gaussian as gaussian
 use Rattle.gaussian.specs.Gaussian.{◌⊗◌, adjoint}
 use Rattle.unitary.specs.Unitary.{matrix_of}
 use Rattle.unitary_file.proofs.row_product.Given as goal
 
 abbrev pub invariant-loop-c : goal.invariant-loop-c
-invariant-loop-c l = (l.c ≤ 4) × (l.sum ≡ gaussian.sum l.c (λ s. matrix_of l.n l.i s ⊗ adjoint (matrix_of l.n) s l.j))
-
-abbrev pub decreases-loop-c : goal.decreases-loop-c
-decreases-loop-c l = 4 - l.c
+invariant-loop-c l = l.sum ≡ gaussian.sum l.c (λ s. matrix_of l.n l.i s ⊗ adjoint (matrix_of l.n) s l.j)

@@ -1,10 +1,9 @@
 -- The refusals of a unitary's bytes, each with what it means.
-use Rattle.std.specs.Prelude.{◌≡◌, Bool, true, false, ◌≢◌, List, ℕ, zero, suc, ◌<◌, ◌≤◌, ◌^◌, ℤ, nat_abs, length, get_or}
+use Rattle.std.specs.Prelude.{◌≡◌, Bool, true, false, ◌≢◌, List, ℕ, zero, suc, ◌<◌, ◌≤◌, ◌^◌, ℤ, nat_abs, length, get_or, Err}
 use Rattle.std.proofs.Common.{sym, ◌∙◌, arith, eq-eqb, ne_eqb, lt-ltb, le-ltb}
 use Rattle.matrix.specs.Range.{tabulate}
 use Rattle.file.specs.File.{short_file, file_exponent, entry_of}
 use Rattle.file.specs.Laws.File.{entry_size}
-use Rattle.unitary_file.specs.declared.Entries.{Entries}
 use Rattle.unitary.specs.Unitary.{matrix_of}
 use Rattle.unitary_file.specs.Unitary.{Narrow, ReadAs, entries_refusal, is_small, is_unitary, largest_unitary, unitary_entries, unitary_length, unitary_of, unitary_refusal}
 
@@ -38,8 +37,8 @@ module _ (b : List ℕ) (l : length b ≡ unitary_length) (h : file_exponent b �
   taken_in e f = in_form b l h ∙ rw (e, f)
 
 -- a refusal, with nothing beside it
-pub refused_as : (b : List ℕ) (r : Entries) (n : ℕ) → unitary_refusal b ≡ n → 0 < n → r.refusal ≡ n → ReadAs b r
-refused_as b r n e l f = record { refusal = f ∙ sym e; exponent = λ z. absurd (omega arith); entries = λ z. absurd (omega arith); narrow = λ z. absurd (omega arith) }
+pub refused_as : (b : List ℕ) (n : ℕ) → unitary_refusal b ≡ n → 0 < n → ReadAs b (Err n)
+refused_as b n e l = (sym e, rw e l)
 
 -- 16 bits each
 narrow : (f : ℕ → ℤ) → ((n : ℕ) → nat_abs (f n) ≤ 2 ^ 15) → (a k : ℕ) → Narrow (tabulate f a k)

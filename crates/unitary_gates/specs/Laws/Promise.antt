@@ -1,5 +1,5 @@
 -- The normal form of an accepted unitary's form, as the code holds it, and the ways out of the call.
-use Rattle.std.specs.Prelude.{◌≡◌, refl, true, ◌≢◌, ℕ, ◌+◌, ◌*◌, ◌-◌, ◌<◌, ◌≤◌, replicate}
+use Rattle.std.specs.Prelude.{◌≡◌, refl, true, ◌≢◌, ℕ, ◌+◌, ◌*◌, ◌-◌, ◌<◌, ◌≤◌, replicate, Ok, Err}
 use Rattle.std.proofs.Math.Path.{sym, ap, subst}
 use Rattle.std.proofs.Common.{ap₂, ◌∙◌, inl, ⊎_elim, arith, length-append}
 use mathlib.Core.List.{List, ◌++◌, map}
@@ -22,7 +22,7 @@ use Rattle.letter.specs.Gate.{letter}
 use Rattle.letter.specs.Written.{Written}
 use Rattle.gate_list.specs.List.{gate_list}
 use Rattle.acceptance.specs.declared.Cut.{Cut}
-use Rattle.acceptance.specs.Cutting.{CutAs}
+use Rattle.acceptance.specs.Cutting.{CutFrom}
 use Rattle.operator.specs.Laws.Negative.{same_count, same_loose}
 use Rattle.unitary.specs.Unitary.{Quotient, quotient, Unitary, matrix_of}
 use Rattle.unitary.specs.Form.{form_of}
@@ -33,7 +33,6 @@ use Rattle.unitary_file.specs.Unitary.{Narrow, ReadAs, largest_unitary, unitary_
 use Rattle.unitary_file.specs.Laws.Accepted.{accepted}
 use Rattle.six_form.specs.declared.Form.{Form}
 use Rattle.six_form.specs.Places.{FormAs}
-use Rattle.unitary_gates.specs.declared.Synthesis.TheVariants.{Letters, Refused}
 use Rattle.unitary_gates.specs.Promise.{form_count, form_loose, form_list, UnitaryList, UnitaryPromise}
 use Rattle.unitary_gates.specs.Laws.List.{array_orthogonal, unitary_list, form_count_small, list_of_form}
 use Rattle.unitary_gates.specs.Laws.Exactly.{exactly_refused, exactly_accepted}
@@ -59,19 +58,19 @@ module _ (U : Quotient) (o : Unitary U) (f : Form) (a : FormAs U f) where
     pub columns : are_column_bytes c.columns ≡ true
     pub list : gate_list (take c.count c.numbers) c.columns ≡ form_list U
 
-  pub held : (c : Cut) → CutAs 0 k f.matrix c → Held c
+  pub held : (c : Cut) → CutFrom k f.matrix c → Held c
   held c t =
       let m = f.matrix in
       let q = cutting k m computed_orthogonal in
       let l = length_listed (form_of U).matrix in
-      let n : take c.count c.numbers ≡ taken k m = ap₂ take (t.count refl) (t.numbers refl) ∙ take_at (taken k m) (replicate (60 - count k m) 0) (count k m) q.exact in
+      let n : take c.count c.numbers ≡ taken k m = ap₂ take (t.count) (t.numbers) ∙ take_at (taken k m) (replicate (60 - count k m) 0) (count k m) q.exact in
       record {
-        count = t.count refl ∙ same_count k (form_of U).exponent m (listed (form_of U).matrix) a.long l computed_orthogonal (array_orthogonal U o) same;
-        loose = t.loose refl ∙ same_loose k (form_of U).exponent m (listed (form_of U).matrix) a.long l computed_orthogonal (array_orthogonal U o) same;
-        small = let h = (least_form_lem k m).below in let e = t.count refl in let s = a.small in omega arith;
+        count = t.count ∙ same_count k (form_of U).exponent m (listed (form_of U).matrix) a.long l computed_orthogonal (array_orthogonal U o) same;
+        loose = t.loose ∙ same_loose k (form_of U).exponent m (listed (form_of U).matrix) a.long l computed_orthogonal (array_orthogonal U o) same;
+        small = let h = (least_form_lem k m).below in let e = t.count in let s = a.small in omega arith;
         numbers = rw n q.numbers;
-        columns = rw (t.columns refl) (columns_valid _ (permutation_complete _ (matrix_permutation (entry (remaining k m)) q.orthogonal)));
-        list = ap₂ gate_list n (t.columns refl) ∙ list_of_form U o k m a.long computed_orthogonal a.same;
+        columns = rw (t.columns) (columns_valid _ (permutation_complete _ (matrix_permutation (entry (remaining k m)) q.orthogonal)));
+        list = ap₂ gate_list n (t.columns) ∙ list_of_form U o k m a.long computed_orthogonal a.same;
       }
 
 -- the letters that are written stand in the buffer
@@ -82,47 +81,47 @@ written_fits w old new n k =
     let g = k.next in
     omega arith
 
--- ---- the ways out of the call, where the code holds r
+-- ---- the ways out of the call
 
-module _ (b old : List ℕ) (r : Entries) (p : ReadAs b r) where
-  still_refused : r.refusal ≢ 0 → unitary_refusal b ≢ 0
-  still_refused h z = h (p.refusal ∙ z)
+module _ (b old : List ℕ) where
+  pub unitary_refused : (n : ℕ) → ReadAs b (Err n) → UnitaryPromise b old old (Err n)
+  unitary_refused n p =
+      let h : unitary_refusal b ≢ 0 = λ z. let l = p.1 in omega arith in
+      record {
+        refused = λ x. (ap Err p.0, refl);
+        no_room = λ z l. absurd (h z);
+        handed = λ z l. absurd (h z);
+        exactly = exactly_refused b n p.0;
+      }
 
-  pub unitary_refused : r.refusal ≢ 0 → UnitaryPromise b old old (Refused r.refusal)
-  unitary_refused h = record {
-    refused = λ n. (ap Refused p.refusal, refl);
-    no_room = λ z l. absurd (still_refused h z);
-    handed = λ z l. absurd (still_refused h z);
-    exactly = exactly_refused b r.refusal p.refusal;
-  }
-
-  module _ (e : r.refusal ≡ 0) where
+  -- the code holds r
+  module _ (r : Entries) (p : ReadAs b (Ok r)) where
     none : unitary_refusal b ≡ 0
-    none = sym p.refusal ∙ e
+    none = p.0
 
     abbrev W : Quotient
     W = quotient r.exponent (matrix_of r.entries)
 
     is : W ≡ unitary_of b
-    is = ap₂ (λ k n. quotient k (matrix_of n)) (p.exponent none) (p.entries none)
+    is = ap₂ (λ k n. quotient k (matrix_of n)) p.1.exponent p.1.entries
 
     pub is_unitary_lem : Unitary W
     is_unitary_lem = rw is (accepted b none).unitary
 
     pub is_narrow : Narrow r.entries
-    is_narrow = p.narrow none
+    is_narrow = p.1.narrow
 
     pub is_small_lem : r.exponent ≤ largest_unitary
-    is_small_lem = rw (p.exponent none) (accepted b none).range
+    is_small_lem = rw p.1.exponent (accepted b none).range
 
-    module _ (f : Form) (a : FormAs W f) (c : Cut) (t : CutAs 0 f.exponent f.matrix c) where
+    module _ (f : Form) (a : FormAs W f) (c : Cut) (t : CutFrom f.exponent f.matrix c) where
       what : Held W is_unitary_lem f a c
       what = held W is_unitary_lem f a c t
 
       count_is : c.count ≡ form_count (unitary_of b)
       count_is = what.count ∙ ap form_count is
 
-      pub unitary_no_room : length old < 256 * (c.count + 1) → UnitaryPromise b old old (Refused 6)
+      pub unitary_no_room : length old < 256 * (c.count + 1) → UnitaryPromise b old old (Err 6)
       unitary_no_room h =
           let x = count_is in
           record {
@@ -133,7 +132,7 @@ module _ (b old : List ℕ) (r : Entries) (p : ReadAs b r) where
           }
 
       pub unitary_done : (new : List ℕ) (n q : ℕ) → 256 * (c.count + 1) ≤ length old → Written (gate_list (take c.count c.numbers) c.columns) 0 old new n
-          → ((w : List Gate) → take n new ≡ map letter w → q ≡ power_of W w) → UnitaryPromise b old new (Letters c.count n c.loose q)
+          → ((w : List Gate) → take n new ≡ map letter w → q ≡ power_of W w) → UnitaryPromise b old new (Ok (record { count = c.count; letters = n; loose = c.loose; power = q }))
       unfolding written
       unitary_done new n q h k power =
           let x = count_is in

@@ -1,11 +1,10 @@
 -- The second part stands right after the first; either has at most seven letters.
 use mathlib.Core.Path.{ap₂}
 use mathlib.Core.List.{List, [], ◌++◌}
-use Prim.Native.Nat.{ℕ, ◌+◌, ◌≤◌}
+use Prim.Native.Nat.{ℕ, ◌+◌}
 use native.Mathlib.Omega.{arith}
-use lib.ListN.{length, get_or}
+use lib.ListN.{get_or}
 use Rattle.letter.specs.declared.Gate.{Gate}
-use Rattle.letter.specs.Written.{Written}
 use Rattle.letter.specs.Laws.Written.{written_as, written_length, written_append}
 use Rattle.word.specs.Word.{part_words}
 use Rattle.word.specs.Laws.Word.{part_length}
@@ -16,14 +15,18 @@ word part = get_or part_words part []
 
 pub write_code-requires : goal.write_code-requires
 write_code-requires c =
-    let n = part_length ((c.low_bits-first.result)) in
-    let l = written_length ((let one' : Written (word (c.low_bits-first.result)) c.args.at c.args.out.now c.write_code-next.new.out c.write_code-next.result = c.write_code-next.ensures (word (c.low_bits-first.result)) c.part_code.ensures (omega (arith, part_length (c.low_bits-first.result))) in one')) ((let fits' : c.args.at + length (word (c.low_bits-first.result)) ≤ length c.args.out.now = omega (arith, part_length (c.low_bits-first.result), c.requires) in fits')) in
-    let e = ((let one' : Written (word (c.low_bits-first.result)) c.args.at c.args.out.now c.write_code-next.new.out c.write_code-next.result = c.write_code-next.ensures (word (c.low_bits-first.result)) c.part_code.ensures (omega (arith, part_length (c.low_bits-first.result))) in one')).next in
+    let k = c.low_bits-first.result in
+    let n = part_length k in
+    let one = c.write_code-next.ensures (word k) c.part_code.ensures (omega arith) in
+    let l = written_length one (omega (arith, c.requires)) in
+    let e = one.next in
     omega (arith, c.requires)
 
 pub returns : goal.returns
 returns c =
+    let j = c.low_bits-first.result in
     let k = 8 + c.low_bits-second.result in
+    let n = part_length j in
     written_as
     (ap₂ (λ i j. word i ++ word (8 + j)) c.low_bits-first.ensures.0 c.low_bits-second.ensures.0)
-    (written_append ((let one' : Written (word (c.low_bits-first.result)) c.args.at c.args.out.now c.write_code-next.new.out c.write_code-next.result = c.write_code-next.ensures (word (c.low_bits-first.result)) c.part_code.ensures (omega (arith, part_length (c.low_bits-first.result))) in one')) ((let fits' : c.args.at + length (word (c.low_bits-first.result)) ≤ length c.args.out.now = omega (arith, part_length (c.low_bits-first.result), c.requires) in fits')) (c.write_code.ensures (word k) c.part_code-2.ensures (omega (arith, part_length k))))
+    (written_append (c.write_code-next.ensures (word j) c.part_code.ensures (omega arith)) (omega (arith, c.requires)) (c.write_code.ensures (word k) c.part_code-2.ensures (omega (arith, part_length k))))

@@ -2,11 +2,10 @@
 use mathlib.Core.Bool.{true, false}
 use mathlib.Core.Path.{ap₂}
 use mathlib.Core.List.{List, [], ◌++◌}
-use Prim.Native.Nat.{ℕ, ◌+◌, ◌≤◌}
+use Prim.Native.Nat.{ℕ}
 use native.Mathlib.Omega.{arith}
-use lib.ListN.{length, get_or}
+use lib.ListN.{get_or}
 use Rattle.letter.specs.declared.Gate.{Gate}
-use Rattle.letter.specs.Written.{Written}
 use Rattle.letter.specs.Laws.Written.{written_as, written_length, written_append}
 use Rattle.word.specs.Word.{rotation_words, on_qubit}
 use Rattle.word.specs.Laws.Word.{rotation_length}
@@ -20,14 +19,18 @@ second row = on_qubit true (get_or rotation_words row [])
 
 pub write_code-requires : goal.write_code-requires
 write_code-requires c =
-    let n = rotation_length false ((c.rotation_row-first.result)) in
-    let l = written_length ((let one' : Written (first (c.rotation_row-first.result)) c.args.at c.args.out.now c.write_code-next.new.out c.write_code-next.result = c.write_code-next.ensures (first (c.rotation_row-first.result)) c.rotation_code.ensures (omega (arith, rotation_length false (c.rotation_row-first.result))) in one')) ((let fits' : c.args.at + length (first (c.rotation_row-first.result)) ≤ length c.args.out.now = omega (arith, rotation_length false (c.rotation_row-first.result), c.requires) in fits')) in
-    let e = ((let one' : Written (first (c.rotation_row-first.result)) c.args.at c.args.out.now c.write_code-next.new.out c.write_code-next.result = c.write_code-next.ensures (first (c.rotation_row-first.result)) c.rotation_code.ensures (omega (arith, rotation_length false (c.rotation_row-first.result))) in one')).next in
+    let k = c.rotation_row-first.result in
+    let n = rotation_length false k in
+    let one = c.write_code-next.ensures (first k) c.rotation_code.ensures (omega arith) in
+    let l = written_length one (omega (arith, c.requires)) in
+    let e = one.next in
     omega (arith, c.requires)
 
 pub returns : goal.returns
 returns c =
+    let j = c.rotation_row-first.result in
     let k = c.rotation_row-second.result in
+    let n = rotation_length false j in
     written_as
     (ap₂ (λ i j. first i ++ second j) c.rotation_row-first.ensures.0 c.rotation_row-second.ensures.0)
-    (written_append ((let one' : Written (first (c.rotation_row-first.result)) c.args.at c.args.out.now c.write_code-next.new.out c.write_code-next.result = c.write_code-next.ensures (first (c.rotation_row-first.result)) c.rotation_code.ensures (omega (arith, rotation_length false (c.rotation_row-first.result))) in one')) ((let fits' : c.args.at + length (first (c.rotation_row-first.result)) ≤ length c.args.out.now = omega (arith, rotation_length false (c.rotation_row-first.result), c.requires) in fits')) (c.write_code.ensures (second k) c.rotation_code-2.ensures (omega (arith, rotation_length true k))))
+    (written_append (c.write_code-next.ensures (first j) c.rotation_code.ensures (omega arith)) (omega (arith, c.requires)) (c.write_code.ensures (second k) c.rotation_code-2.ensures (omega (arith, rotation_length true k))))

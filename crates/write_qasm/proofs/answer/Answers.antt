@@ -1,10 +1,10 @@
 -- What is written is that of the answer's case.
-use mathlib.Core.Path.{◌≡◌, sym, ap, subst, ◌∙◌}
+use Rattle.std.specs.Prelude.{Err}
+use mathlib.Core.Path.{◌≡◌, ap, ◌∙◌}
 use mathlib.Core.List.{List, [], ◌∷◌}
 use Prim.Native.Nat.{ℕ, ◌≤◌}
 use native.Mathlib.Omega.{arith}
 use lib.ListN.{length}
-use Rattle.file.specs.declared.Wrote.{Wrote}
 use Rattle.file.specs.Laws.Written.{appended_as}
 use Rattle.letter.specs.declared.Gate.{Gate}
 use Rattle.gate.specs.Reading.{gates}
@@ -13,14 +13,9 @@ use Rattle.text.specs.Laws.Text.{line_length, within}
 use Rattle.text_read.specs.Text.{without_line_feed}
 use Rattle.qasm.specs.Text.{text_of, longest_text}
 use Rattle.qasm.specs.Reading.{read_letters}
-use Rattle.qasm.specs.Promise.{TextPromise}
 use Rattle.qasm.specs.Laws.Refusals.{text_small}
 use Rattle.qasm.specs.Laws.Output.{wrote, refused}
 use Rattle.write_qasm.proofs.answer.Goals as goal
-
--- the call's promise, of the letters that are left of the input
-promise : (input letters old new : List ℕ) (r : Wrote) → letters ≡ without_line_feed input → TextPromise letters old new r → TextPromise (without_line_feed input) old new r
-promise input letters old new r e = subst (λ bs. TextPromise bs old new r) e
 
 -- a buffer for the longest text has room for that of each list that is read
 room : (bs old : List ℕ) → longest_text ≤ length old → (w : List Gate) → read_letters bs ≡ gates w → length (text_of w) ≤ length old
@@ -28,25 +23,25 @@ room bs old h w e = let t = text_small bs w e in omega arith
 
 pub write_refused-requires : goal.write_refused-requires
 write_refused-requires c =
-    let p = promise _ _ c.args.out.now _ _ c.without_line_feed-letters.ensures c.gates_to_qasm-answer.ensures in
+    let p = rw c.without_line_feed-letters.ensures at c.in-Err.ensures in
     let bs = without_line_feed c.args.input.now in
-    let (e, f) = refused text_of _ _ (read_letters bs) (room bs c.args.out.now (omega arith)) _ (sym c.in-Refused.is ∙ p.answer) p.buffer in
-    let l = line_length refused_word (c.in-Refused.refusal ∷ []) in
+    let (e, f) = refused text_of _ _ (read_letters bs) (room bs c.args.out.now (omega arith)) _ (ap Err c.number.ensures.0 ∙ p.answer) p.buffer in
+    let l = line_length refused_word (c.number.result ∷ []) in
     let m = ap length f in
     omega arith
 
-pub returns-in-Bytes : goal.returns-in-Bytes
-returns-in-Bytes c =
-    let p = promise _ _ c.args.out.now _ _ c.without_line_feed-letters.ensures c.gates_to_qasm-answer.ensures in
+pub returns-in-Ok : goal.returns-in-Ok
+returns-in-Ok c =
+    let p = rw c.without_line_feed-letters.ensures at c.in-Ok.ensures in
     let bs = without_line_feed c.args.input.now in
-    let (n, a) = wrote text_of _ _ (read_letters bs) (room bs c.args.out.now (omega arith)) _ (sym c.in-Bytes.is ∙ p.answer) p.buffer in
+    let (n, a) = wrote text_of _ _ (read_letters bs) (room bs c.args.out.now (omega arith)) _ p.answer p.buffer in
     (a, within a n)
 
-pub returns-in-Refused : goal.returns-in-Refused
-returns-in-Refused c =
-    let p = promise _ _ c.args.out.now _ _ c.without_line_feed-letters.ensures c.gates_to_qasm-answer.ensures in
+pub returns-in-Err : goal.returns-in-Err
+returns-in-Err c =
+    let p = rw c.without_line_feed-letters.ensures at c.in-Err.ensures in
     let bs = without_line_feed c.args.input.now in
-    let (e, f) = refused text_of _ _ (read_letters bs) (room bs c.args.out.now (omega arith)) _ (sym c.in-Refused.is ∙ p.answer) p.buffer in
-    let l = line_length refused_word (c.in-Refused.refusal ∷ []) in
+    let (e, f) = refused text_of _ _ (read_letters bs) (room bs c.args.out.now (omega arith)) _ (ap Err c.number.ensures.0 ∙ p.answer) p.buffer in
+    let l = line_length refused_word (c.number.result ∷ []) in
     let a = rw f at c.write_refused.ensures in
     (appended_as e a, within a (omega arith))

@@ -1,0 +1,9 @@
+-- The invariant: the exponent and the entries before n are written.
+use Prim.Native.Nat.{◌≤◌}
+use lib.ListN.{length}
+use Rattle.file.specs.File.{kind_for, length_for}
+use Rattle.file.specs.Laws.Encoding.{Begun}
+use Rattle.file.proofs.encode.Given as goal
+
+abbrev pub invariant-loop-n : goal.invariant-loop-n
+invariant-loop-n l = (length_for l.k ≤ length l.initial.out) × Begun (kind_for l.k) l.k l.m l.n l.initial.out l.out

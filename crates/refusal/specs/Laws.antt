@@ -1,0 +1,2 @@
+-- Theorems.
+pub mod Refusal
