@@ -6,7 +6,7 @@ use Rattle.clifford.specs.Columns.{column_bytes}
 use Rattle.file.specs.File.{file_exponent, file_matrix}
 use Rattle.reduction.specs.Reduction as reduction
 use Rattle.reduction.specs.Result.{numbers_of}
-use Rattle.acceptance.specs.declared.Cut.{Cut}
+use Rattle.reduction.specs.declared.Cut.{Cut}
 use Rattle.acceptance.specs.Acceptance.{file_refusal}
 
 abbrev pub file_count : List ℕ → ℕ

@@ -10,16 +10,8 @@ ghost use Rattle.matrix.specs.Array.{Bounded};
 ghost use Rattle.acceptance.specs.Acceptance.{entries_refusal};
 ghost use Rattle.acceptance.specs.Cutting.{CutFrom, CutAs, CutOf};
 
+use reduction::Cut;
 use refusal::Refusal;
-
-// The normal form of an operator.
-#[derive(Clone, Copy)]
-pub struct Cut {
-    pub count: u8,
-    pub loose: u8,
-    pub numbers: [u8; 60],
-    pub columns: [u8; 6],
-}
 
 // The normal form of an orthogonal operator.
 pub fn cut_orthogonal(k: u8, m: [i64; 36]) -> Cut

@@ -88,7 +88,7 @@ pub fn check_bundle(bytes: &[u8], n: u64) -> Result<(), Refusal>
     Ok(())
 }
 
-// The number of the refusal that a bundle and the number of a sheet earn, or 0.
+// The number of the refusal that a bundle and the number of a sheet earn, or 0: document 02, P7, asks for the number, so it is no `Result`.
 pub fn bundle_refusal(bytes: &[u8], n: u64) -> u8
     ensures { result ≡ bundle_refusal bytes.now n }
 {

@@ -6,7 +6,7 @@ ghost use Rattle.std.specs.Prelude.{map, ◌≡◌, ◌+◌, ◌<◌, drop, get_
 ghost use Rattle.matrix.specs.Matrix.{entry};
 ghost use Rattle.clifford.specs.Columns.{are_column_bytes, column_byte, column_bytes, differs, different, is_column_byte, negated, row_of, signed_byte};
 
-// The byte of column c: of its first entry that is not 0.
+// The byte of column c: of its first entry that is not 0. Where there is none it is 135; no `Option`, since the definition `column_byte` has the 135.
 fn column_byte(m: [i64; 36], c: usize) -> u8
     requires { c < 6 }
     ensures { result ≡ column_byte (entry m) c }

@@ -9,6 +9,7 @@ ghost use Rattle.letter.specs.Written.{Written};
 ghost use Rattle.gate_list.specs.List.{right_of, stretch, stretch_sign, gate_list, list_sign};
 ghost use Rattle.gate_list.specs.Stretches.{stretch_codes};
 
+use reduction::Cut;
 use word_table::Word;
 
 // The stretch before generator h, where g is the generator before it, with the C of h: number 15 × (g − 1) + (h − 1), as `word_code` has words. Its
@@ -303,24 +304,24 @@ pub struct List {
     pub sign: u8,
 }
 
-// Writes the gate list of the first `count` generator numbers and a Clifford to the front of `out`. Two stretches with sign 1 make a list of sign 0.
+// Writes the gate list of a normal form to the front of `out`. Two stretches with sign 1 make a list of sign 0.
 // Wrong, and refused: the sign 0 for every list; the sign of the last stretch alone; how many stretches have the sign 1, and not whether that is odd.
-pub fn write_list(count: u8, numbers: [u8; 60], columns: [u8; 6], out: &mut [u8]) -> List
-    requires { (count ≤ 60) × Numbers (take count numbers) × (are_column_bytes columns ≡ true) × (256 * (count + 1) ≤ length out.old) }
-    ensures { Written (gate_list (take count numbers) columns) 0 out.old out.new result.letters × (result.sign ≡ list_sign (take count numbers) columns) }
+pub fn write_list(cut: &Cut, out: &mut [u8]) -> List
+    requires { (cut.now.count ≤ 60) × Numbers (take cut.now.count cut.now.numbers) × (are_column_bytes cut.now.columns ≡ true) × (256 * (cut.now.count + 1) ≤ length out.old) }
+    ensures { Written (gate_list (take cut.now.count cut.now.numbers) cut.now.columns) 0 out.old out.new result.letters × (result.sign ≡ list_sign (take cut.now.count cut.now.numbers) cut.now.columns) }
 {
     let codes = stretch_codes();
     let mut before = CS;
     let mut at = 0usize;
     let mut signs = 0u8;
-    for number in &numbers[..count as usize] {
+    for number in &cut.numbers[..cut.count as usize] {
         let g = *number as usize;
         let word = write_stretch(&codes, before, g, out, at);
         at = word.next;
         signs += word.sign;
         before = g;
     }
-    let last = letter::compose(right_of(before), columns);
+    let last = letter::compose(right_of(before), cut.columns);
     let word = word_table::write_clifford(last, out, at);
     List {
         letters: word.next,

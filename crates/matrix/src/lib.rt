@@ -27,7 +27,7 @@ pub fn parity_of(x: i64) -> u8
     (x % 2 != 0) as u8
 }
 
-// How many entries, row by row, stand before the first odd one: 36 if all are even.
+// How many entries, row by row, stand before the first odd one: 36 if all are even, which document 02, P6, asks for, and so no `Option`.
 // Wrong, and refused: the last odd entry's place; the first odd entry counted too; 35 if all are even.
 pub fn before_odd(m: &[i64; 36]) -> usize
     ensures { result ≡ before_odd (entry m.now) }

@@ -97,7 +97,7 @@ fn undo_letter(b: u8, v: [u64; 4]) -> [u64; 4]
     }
 }
 
-// The power of 2 that a residue is; 8 where it is none.
+// The power of 2 that a residue is; 8 where it is none, and no `Option`, since the definition `exponent_of` has the 8.
 // Wrong, and refused: one more than the power; 0 for what is no power.
 fn exponent_of(x: u64) -> u8
     ensures { result ≡ exponent_of x }

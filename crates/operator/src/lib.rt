@@ -8,16 +8,17 @@ ghost use Rattle.file.specs.File.{written};
 ghost use Rattle.sheet_bytes.specs.Bytes.{shortest, sheet_bytes};
 ghost use Rattle.operator.specs.Promise.{SheetPromise, GatesPromise};
 
+use reduction::Cut;
 use refusal::Refusal;
 
-// The sheet of the first `count` generator numbers and of the columns of what remains, at the front of `out`; the bytes past it stay.
-fn write_sheet(count: u8, numbers: [u8; 60], columns: [u8; 6], out: &mut [u8])
-    requires { (count ≤ 60) × (count + shortest ≤ length out.old) }
-    ensures { out.new ≡ written out.old (sheet_bytes (take count numbers) columns) }
+// The sheet of a normal form, at the front of `out`; the bytes past it stay.
+fn write_sheet(cut: &Cut, out: &mut [u8])
+    requires { (cut.now.count ≤ 60) × (cut.now.count + shortest ≤ length out.old) }
+    ensures { out.new ≡ written out.old (sheet_bytes (take cut.now.count cut.now.numbers) cut.now.columns) }
 {
-    let end = count as usize + sheet_bytes::SHORTEST;
+    let end = cut.count as usize + sheet_bytes::SHORTEST;
     for n in 0..end {
-        out[n] = sheet_bytes::sheet_byte(count, numbers, columns, n);
+        out[n] = sheet_bytes::sheet_byte(cut, n);
     }
 }
 
@@ -38,7 +39,7 @@ pub fn operator_to_sheet(bytes: &[u8], out: &mut [u8]) -> Result<Cuts, Refusal>
     if out.len() < cut.count as usize + sheet_bytes::SHORTEST {
         return Err(Refusal::Buffer);
     }
-    write_sheet(cut.count, cut.numbers, cut.columns, out);
+    write_sheet(&cut, out);
     Ok(Cuts {
         count: cut.count,
         loose: cut.loose,
@@ -64,7 +65,7 @@ pub fn operator_to_gates(bytes: &[u8], out: &mut [u8]) -> Result<Listed, Refusal
     if out.len() < 256 * (cut.count as usize + 1) {
         return Err(Refusal::Buffer);
     }
-    let list = gate_list::write_list(cut.count, cut.numbers, cut.columns, out);
+    let list = gate_list::write_list(&cut, out);
     let count = cut.count;
     let loose = cut.loose;
     Ok(Listed {

@@ -21,7 +21,7 @@ fn order_line(t: u64, p: u64, out: &mut [u8; 32]) -> usize
     }
 }
 
-// The line for two arguments, or nothing.
+// The line for two arguments, or nothing, which has no bytes: no `Option` is plainer than their number.
 fn answer(count: &[u8], spoilage: &[u8], out: &mut [u8; 32]) -> usize
     ensures { Appended (order_text (number_of count.now) (number_of spoilage.now)) 0 out.old out.new result × IsPrefixLen result out.new }
 {

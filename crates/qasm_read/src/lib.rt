@@ -31,7 +31,7 @@ const CZ_REVERSED: [u8; 14] = *b"cz q[1],q[0];\n";
 
 const CS_REVERSED: [u8; qasm::LONGEST_STATEMENT] = *b"cu1(pi/2) q[1],q[0];\n";
 
-// The place after a line that stands at a place, or that place itself.
+// The place after a line that stands at a place, or that place itself: it can't fail, so it answers no `Option`.
 // Byte by byte, since a text takes more than twice the instructions with `starts_with`.
 pub fn after(text: &[u8], at: usize, line: &[u8]) -> usize
     requires { at ≤ length text.now }

@@ -29,6 +29,15 @@ pub struct Normal {
     pub matrix: [i64; 36],
 }
 
+// A normal form: the generators' numbers, of which the first `count` count, how many of the cuts were loose, and the columns of the Clifford that remains.
+#[derive(Clone, Copy, Debug, PartialEq, Eq)]
+pub struct Cut {
+    pub count: u8,
+    pub loose: u8,
+    pub numbers: [u8; 60],
+    pub columns: [u8; 6],
+}
+
 // Generator g's inverse on the left.
 fn cut_by(m: [i64; 36], g: usize) -> [i64; 36]
     requires { (1 ≤ g) × (g ≤ 15) × Bounded (2 ^ 30) (entry m) }

@@ -51,7 +51,7 @@ fn pairs_fit(masks: &[u8; 6], pairs: [u8; 6]) -> bool
     (0..3).all(|p| masks[pairs[p * 2] as usize] == masks[pairs[p * 2 + 1] as usize])
 }
 
-// The lowest-numbered generator whose every pair lies inside a group of rows, or 16.
+// The lowest-numbered generator whose every pair lies inside a group of rows, or 16; no `Option`, since the definition `first_fit` has the 16.
 pub fn first_fit(masks: [u8; 6]) -> usize
     ensures { result ≡ first_fit (mask_at masks) }
 {

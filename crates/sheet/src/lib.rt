@@ -15,6 +15,7 @@ ghost use Rattle.sheet_bytes.specs.Sheet.{is_number};
 ghost use Rattle.sheet.specs.Promise.{CutAgain, SheetRead, OperatorPromise};
 
 use matrix::Least;
+use reduction::Cut;
 use refusal::Refusal;
 
 // The product of the generators of the first `count` bytes and a Clifford.
@@ -30,16 +31,16 @@ fn multiplied(bytes: &[u8], count: usize, columns: [u8; 6]) -> [i64; 36]
     times::times_columns(m, columns)
 }
 
-// Whether the bytes are the sheet of the first `count` generator numbers and of the columns of what remains.
-fn is_sheet(bytes: &[u8], count: u8, numbers: [u8; 60], columns: [u8; 6]) -> bool
-    requires { count ≤ 60 }
-    ensures { result ≡ same_list (sheet_bytes (take count numbers) columns) bytes.now }
+// Whether the bytes are the sheet of a normal form.
+fn is_sheet(bytes: &[u8], cut: &Cut) -> bool
+    requires { cut.now.count ≤ 60 }
+    ensures { result ≡ same_list (sheet_bytes (take cut.now.count cut.now.numbers) cut.now.columns) bytes.now }
 {
-    if bytes.len() != count as usize + sheet_bytes::SHORTEST {
+    if bytes.len() != cut.count as usize + sheet_bytes::SHORTEST {
         return false;
     }
     for n in 0..bytes.len() {
-        if sheet_bytes::sheet_byte(count, numbers, columns, n) != bytes[n] {
+        if sheet_bytes::sheet_byte(cut, n) != bytes[n] {
             return false;
         }
     }
@@ -51,9 +52,7 @@ fn cut_again(bytes: &[u8], count: u8, m: [i64; 36]) -> Result<Least, Refusal>
     requires { (count ≤ 60) × Orthogonal (operator count (entry m)) }
     ensures { CutAgain bytes.now count m (numbered result) }
 {
-    let normal = reduction::normal_form(count, m);
-    let columns = clifford::columns_of(normal.matrix);
-    if !is_sheet(bytes, normal.count, normal.numbers, columns) {
+    if !is_sheet(bytes, &acceptance::cut_orthogonal(count, m)) {
         return Err(Refusal::NotCanonical);
     }
     let mut matrix = m;

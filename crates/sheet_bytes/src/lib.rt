@@ -9,6 +9,7 @@ ghost use Rattle.clifford.specs.Columns.{are_column_bytes, signed};
 ghost use Rattle.sheet_bytes.specs.Bytes.{shortest, longest, sign_byte, sheet_bytes, sheet_columns};
 ghost use Rattle.sheet_bytes.specs.Sheet.{is_counted, is_number, is_clifford, has_wrong_sign, bytes_refusal};
 
+use reduction::Cut;
 use refusal::Refusal;
 
 // The fewest and the most bytes of a sheet: the count, six columns and the sign, and with them up to 60 generators.
@@ -26,23 +27,23 @@ fn sign_byte(columns: [u8; 6]) -> u8
     0
 }
 
-// Byte n of the sheet of the first `count` generator numbers and of the columns of what remains.
-pub fn sheet_byte(count: u8, numbers: [u8; 60], columns: [u8; 6], n: usize) -> u8
-    requires { (count ≤ 60) × (n < count + shortest) }
-    ensures { result ≡ get_or (sheet_bytes (take count numbers) columns) n 0 }
+// Byte n of the sheet of a normal form.
+pub fn sheet_byte(cut: &Cut, n: usize) -> u8
+    requires { (cut.now.count ≤ 60) × (n < cut.now.count + shortest) }
+    ensures { result ≡ get_or (sheet_bytes (take cut.now.count cut.now.numbers) cut.now.columns) n 0 }
 {
     if n == 0 {
-        return 64 + count;
+        return 64 + cut.count;
     }
-    let t = count as usize;
+    let t = cut.count as usize;
     if n <= t {
-        return numbers[n - 1];
+        return cut.numbers[n - 1];
     }
-    let sign = sign_byte(columns);
+    let sign = sign_byte(cut.columns);
     if n == t + 7 {
         return sign;
     }
-    clifford::signed_byte(columns[n - 1 - t], sign)
+    clifford::signed_byte(cut.columns[n - 1 - t], sign)
 }
 
 // Whether the first byte is the length plus 56.

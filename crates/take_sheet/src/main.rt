@@ -28,7 +28,7 @@ fn write_sheet(bundle: &[u8], n: u64, out: &mut [u8; 256]) -> usize
     }
 }
 
-// The bytes for a bundle and an argument, or nothing.
+// The bytes for a bundle and an argument, or nothing, which has no bytes: no `Option` is plainer than their number.
 fn answer(bundle: &[u8], number: &[u8], out: &mut [u8; 256]) -> usize
     ensures { Appended (output_of bundle.now (number_of number.now)) 0 out.old out.new result × IsPrefixLen result out.new }
 {

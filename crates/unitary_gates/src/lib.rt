@@ -28,7 +28,7 @@ pub fn unitary_to_gates(bytes: &[u8], out: &mut [u8]) -> Result<Synthesis, Refus
     if out.len() < 256 * (cut.count as usize + 1) {
         return Err(Refusal::Buffer);
     }
-    let list = gate_list::write_list(cut.count, cut.numbers, cut.columns, out);
+    let list = gate_list::write_list(&cut, out);
     let power = omega::power_of(read.exponent, read.entries, &out[..list.letters]);
     Ok(Synthesis {
         count: cut.count,

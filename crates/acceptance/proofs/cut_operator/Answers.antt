@@ -13,7 +13,7 @@ use Rattle.matrix.specs.Operator.{operator}
 use Rattle.matrix.specs.Array.{is_within, is_orthogonal}
 use Rattle.matrix.specs.Laws.Array.{orthogonal_sound, within_bounded}
 use Rattle.clifford.specs.Columns.{is_even}
-use Rattle.acceptance.specs.declared.Cut.{Cut}
+use Rattle.reduction.specs.declared.Cut.{Cut}
 use Rattle.acceptance.specs.Acceptance.{is_proper, entries_refusal}
 use Rattle.acceptance.specs.Cutting.{CutFrom, CutAs}
 use Rattle.acceptance.specs.Laws.Cutting.{even_is_proper}

@@ -11,4 +11,4 @@ abbrev pub byte : ℕ → List ℕ → List ℕ → ℕ → ℕ
 byte count numbers columns i = get_or (sheet_bytes (take count numbers) columns) i 0
 
 abbrev pub invariant-loop-n : goal.invariant-loop-n
-invariant-loop-n l = (l.end ≡ l.count + shortest) × Filled 0 (byte l.count l.numbers l.columns) l.initial.out l.n l.out
+invariant-loop-n l = (l.end ≡ l.cut.count + shortest) × Filled 0 (byte l.cut.count l.cut.numbers l.cut.columns) l.initial.out l.n l.out

@@ -25,7 +25,7 @@ use Rattle.sheet_bytes.specs.Bytes.{shortest, sheet_bytes, sheet, sheet_operator
 use Rattle.sheet_bytes.specs.Laws.Sheet.{length_sheet, sheet_back}
 use Rattle.sheet_bytes.specs.Laws.Count.{sheet_first}
 use Rattle.operator.specs.declared.Cuts.{Cuts}
-use Rattle.acceptance.specs.declared.Cut.{Cut}
+use Rattle.reduction.specs.declared.Cut.{Cut}
 use Rattle.acceptance.specs.Acceptance.{file_refusal}
 use Rattle.acceptance.specs.Cutting.{file_count, file_loose, file_numbers, file_columns, CutOf}
 use Rattle.operator.specs.Promise.{ExactlyRefused, file_sheet, sheet_answer, sheet_buffer, SheetPromise, GatesPromise}

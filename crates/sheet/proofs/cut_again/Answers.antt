@@ -14,26 +14,24 @@ use Rattle.matrix.specs.Operator.{operator, Orthogonal}
 use Rattle.matrix.specs.declared.Least.{Least}
 use Rattle.matrix.specs.Array.{least_form}
 use Rattle.matrix.specs.Laws.Array.{least_form_lem}
-use Rattle.clifford.specs.Columns.{column_bytes}
-use Rattle.reduction.specs.declared.Normal.{Normal}
+use Rattle.reduction.specs.declared.Cut.{Cut}
 use Rattle.reduction.specs.Reduction.{count, taken}
-use Rattle.reduction.specs.Result.{WholeOf}
 use Rattle.reduction.specs.Laws.NormalForm.{cutting}
+use Rattle.acceptance.specs.Cutting.{CutFrom}
 use Rattle.sheet_bytes.specs.Bytes.{sheet_bytes, sheet}
 use Rattle.sheet.specs.Promise.{CutAgain}
 use borrow.Author.Tests.{not-true, not-false}
 use Rattle.sheet.proofs.cut_again.Goals as goal
 
-module _ (s : List ℕ) (k : ℕ) (m : List ℤ) (o : Orthogonal (operator k (entry m))) (f : Normal) (w : WholeOf k m f) where
-  small : k ≤ 60 → f.count ≤ 60
-  small h = rw w.count (let b = (least_form_lem k m).below in omega arith)
+module _ (s : List ℕ) (k : ℕ) (m : List ℤ) (o : Orthogonal (operator k (entry m))) (r : Cut) (c : CutFrom k m r) where
+  small : k ≤ 60 → r.count ≤ 60
+  small h = rw c.count (let b = (least_form_lem k m).below in omega arith)
 
-  module _ (cs : List ℕ) (c : cs ≡ column_bytes (entry f.matrix)) (t : Bool) (e : t ≡ same_list (sheet_bytes (take f.count f.numbers) cs) s) where
-    held : sheet_bytes (take f.count f.numbers) cs ≡ sheet k m
-    unfolding sheet
-    held =
-        ap₂ sheet_bytes (ap₂ take w.count w.numbers ∙ take_at (taken k m) (replicate (60 - count k m) 0) (count k m) (cutting k m o).exact) (c ∙ ap (λ x. column_bytes (entry x)) w.matrix)
+  held : sheet_bytes (take r.count r.numbers) r.columns ≡ sheet k m
+  unfolding sheet
+  held = ap₂ sheet_bytes (ap₂ take c.count c.numbers ∙ take_at (taken k m) (replicate (60 - count k m) 0) (count k m) (cutting k m o).exact) c.columns
 
+  module _ (t : Bool) (e : t ≡ same_list (sheet_bytes (take r.count r.numbers) r.columns) s) where
     test : same_list (sheet k m) s ≡ t
     test = sym (e ∙ ap (λ x. same_list x s) held)
 
@@ -44,13 +42,12 @@ module _ (s : List ℕ) (k : ℕ) (m : List ℤ) (o : Orthogonal (operator k (en
     the_same n z = rw (test ∙ not-false t n) (refl, z)
 
 pub is_sheet-requires : goal.is_sheet-requires
-is_sheet-requires c =
-    small c.args.bytes.now c.args.count c.args.m c.requires.1 c.normal_form-normal.result c.normal_form-normal.ensures c.requires.0
+is_sheet-requires c = small c.args.bytes.now c.args.count c.args.m c.requires.1 c.cut_orthogonal.result c.cut_orthogonal.ensures c.requires.0
 
 pub returns-then-not-is_sheet : goal.returns-then-not-is_sheet
 returns-then-not-is_sheet c =
-    another c.args.bytes.now c.args.count c.args.m c.requires.1 c.normal_form-normal.result c.normal_form-normal.ensures _ c.columns_of-columns.ensures _ c.is_sheet.ensures c.if-not-is_sheet.true-raw
+    another c.args.bytes.now c.args.count c.args.m c.requires.1 c.cut_orthogonal.result c.cut_orthogonal.ensures _ c.is_sheet.ensures c.if-not-is_sheet.true-raw
 
 pub returns : goal.returns
 returns c =
-    the_same c.args.bytes.now c.args.count c.args.m c.requires.1 c.normal_form-normal.result c.normal_form-normal.ensures _ c.columns_of-columns.ensures _ c.is_sheet.ensures c.if-not-is_sheet.false-raw c.least_form-exponent.ensures
+    the_same c.args.bytes.now c.args.count c.args.m c.requires.1 c.cut_orthogonal.result c.cut_orthogonal.ensures _ c.is_sheet.ensures c.if-not-is_sheet.false-raw c.least_form-exponent.ensures

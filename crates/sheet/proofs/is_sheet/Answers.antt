@@ -29,16 +29,16 @@ other_byte xs ys i h = not_same xs ys (λ e. h (ap (λ l. get_or l i 0) e))
 equal : (xs ys : List ℕ) → length xs ≡ length ys → ((i : ℕ) → i < length ys → get_or xs i 0 ≡ get_or ys i 0) → true ≡ same_list xs ys
 equal xs ys l h = sym (subst (λ y. same_list xs y ≡ true) (ext_get_or 0 xs ys l (λ i u. h i (omega arith))) (same_list_refl xs))
 
-pub returns-then-bytes-count : goal.returns-then-bytes-count
-returns-then-bytes-count c =
-    let l = length_held c.args.count c.args.numbers c.args.columns (omega (arith, c.requires)) (omega arith) in
-    other_length (sheet_of_lem c.args.count c.args.numbers c.args.columns) _ (λ e. c.if-bytes-count.true (e ∙ l))
+pub returns-then-bytes-cut : goal.returns-then-bytes-cut
+returns-then-bytes-cut c =
+    let l = length_held c.args.cut.now.count c.args.cut.now.numbers c.args.cut.now.columns (omega (arith, c.requires)) (omega arith) in
+    other_length (sheet_of_lem c.args.cut.now.count c.args.cut.now.numbers c.args.cut.now.columns) _ (λ e. c.if-bytes-cut.true (e ∙ l))
 
 pub returns-then-sheet_byte-bytes : goal.returns-then-sheet_byte-bytes
 returns-then-sheet_byte-bytes c =
-    other_byte (sheet_of_lem c.args.count c.args.numbers c.args.columns) _ c.loop-n.n (λ e. c.if-sheet_byte-bytes.true (c.sheet_byte.ensures ∙ e))
+    other_byte (sheet_of_lem c.args.cut.now.count c.args.cut.now.numbers c.args.cut.now.columns) _ c.loop-n.n (λ e. c.if-sheet_byte-bytes.true (c.sheet_byte.ensures ∙ e))
 
 pub returns : goal.returns
 returns c =
-    let m = length_held c.args.count c.args.numbers c.args.columns (omega (arith, c.requires)) (omega arith) in
-    equal (sheet_of_lem c.args.count c.args.numbers c.args.columns) c.args.bytes.now (m ∙ sym c.loop-n.invariant.0) (λ i u. c.loop-n.invariant.1 i (omega arith))
+    let m = length_held c.args.cut.now.count c.args.cut.now.numbers c.args.cut.now.columns (omega (arith, c.requires)) (omega arith) in
+    equal (sheet_of_lem c.args.cut.now.count c.args.cut.now.numbers c.args.cut.now.columns) c.args.bytes.now (m ∙ sym c.loop-n.invariant.0) (λ i u. c.loop-n.invariant.1 i (omega arith))

@@ -10,4 +10,4 @@ abbrev pub sheet_of_lem : ℕ → List ℕ → List ℕ → List ℕ
 sheet_of_lem count numbers columns = sheet_bytes (take count numbers) columns
 
 abbrev pub invariant-loop-n : goal.invariant-loop-n
-invariant-loop-n l = (length l.bytes ≡ l.count + shortest) × ((i : ℕ) → i < l.n → get_or (sheet_of_lem l.count l.numbers l.columns) i 0 ≡ get_or l.bytes i 0)
+invariant-loop-n l = (length l.bytes ≡ l.cut.count + shortest) × ((i : ℕ) → i < l.n → get_or (sheet_of_lem l.cut.count l.cut.numbers l.cut.columns) i 0 ≡ get_or l.bytes i 0)

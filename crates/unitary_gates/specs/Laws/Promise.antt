@@ -21,7 +21,7 @@ use Rattle.letter.specs.declared.Gate.{Gate}
 use Rattle.letter.specs.Gate.{letter}
 use Rattle.letter.specs.Written.{Written}
 use Rattle.gate_list.specs.List.{gate_list}
-use Rattle.acceptance.specs.declared.Cut.{Cut}
+use Rattle.reduction.specs.declared.Cut.{Cut}
 use Rattle.acceptance.specs.Cutting.{CutFrom}
 use Rattle.operator.specs.Laws.Negative.{same_count, same_loose}
 use Rattle.unitary.specs.Unitary.{Quotient, quotient, Unitary, matrix_of}
