@@ -2,10 +2,10 @@
 
 #![tactic(auto)]
 
-ghost use Rattle.std.specs.Prelude.{◌≡◌, ◌^◌, ◌<◌, ◌≤◌};
+ghost use Rattle.std.specs.Prelude.{◌≡◌, ℕ, ◌^◌, ◌<◌, ◌≤◌, Result, Ok, Err, refl};
 ghost use Rattle.refusal.specs.Refusal.{numbered};
 ghost use Rattle.bundle.specs.Bundle.{Placed};
-ghost use Rattle.answer_word.specs.Encoding.{packed, refused, answer_parts, cuts_parts, listed_parts, letters_of, synthesis_parts, synthesis_letters, bytes_of, part_parts, WordOf};
+ghost use Rattle.answer_word.specs.Encoding.{Parts, packed, refused, answer_parts, cuts_parts, listed_parts, letters_of, synthesis_parts, synthesis_letters, bytes_of, part_parts, WordOf};
 
 use bundle::Part;
 use operator::{Cuts, Listed};
@@ -43,86 +43,127 @@ pub fn encode_refusal(number: u8) -> u64
     pack(number, 0, 0, 0, 0)
 }
 
+// What a call hands out, as the parts of a word.
+pub trait Answer {
+    // What an answer says, a refusal too.
+    ghost parts: { Result Self ℕ → Parts };
+
+    // Its parts have room.
+    ghost Room: { Result Self ℕ → Type 0 };
+
+    fn pack(self) -> u64
+        requires { Room (Ok self) }
+        ensures { WordOf (parts (Ok self)) result };
+
+    ghost refuses: { (n : ℕ) → parts (Err n) ≡ refused n };
+}
+
 // The word of an answer.
-// Wrong, and refused: the count as a length; the number of another refusal.
-pub fn encode_answer(answer: Result<u8, Refusal>) -> u64
-    ensures { WordOf (answer_parts (numbered answer)) result }
+// Wrong, and refused: the number of one refusal for all.
+pub fn encode<A: Answer>(answer: Result<A, Refusal>) -> u64
+    requires { A.Room (numbered answer) }
+    ensures { WordOf (A.parts (numbered answer)) result }
 {
     match answer {
-        Ok(count) => pack(0, count as u32, 0, 0, 0),
+        Ok(answer) => answer.pack(),
         Err(refusal) => encode_refusal(refusal.number()),
     }
 }
 
-// The word of the answer of the call for a sheet.
-// Wrong, and refused: L in the bits of the phase; L beside a refusal.
-pub fn encode_cuts(answer: Result<Cuts, Refusal>) -> u64
-    ensures { WordOf (cuts_parts (numbered answer)) result }
-{
-    match answer {
-        Ok(Cuts { count, loose }) => pack(0, count as u32, 0, loose, 0),
-        Err(refusal) => encode_refusal(refusal.number()),
+// A count, a number of states or of layers.
+// Wrong, and refused: the count as a length.
+impl Answer for u8 {
+    ghost parts = { answer_parts };
+
+    ghost Room = { λ _. Unit {0} };
+
+    ghost refuses = { λ _. refl };
+
+    fn pack(self) -> u64 {
+        pack(0, u32::from(self), 0, 0, 0)
     }
 }
 
-// The word of the answer of the call for a gate list.
-// Wrong, and refused: the count as the number of letters; a refusal beside a count; L left out; the sign left out; L and the sign in each other's bits.
-pub fn encode_listed(answer: Result<Listed, Refusal>) -> u64
-    requires { letters_of (numbered answer) < 2 ^ 16 }
-    ensures { WordOf (listed_parts (numbered answer)) result }
-{
-    match answer {
-        Ok(
-            Listed {
-                count,
-                letters,
-                loose,
-                sign,
-            },
-        ) => pack(0, count as u32, letters as u16, loose, sign),
-        Err(refusal) => encode_refusal(refusal.number()),
-    }
-}
-
-// The word of the answer of the call for a unitary.
-// Wrong, and refused: the power of ω left out; L and the power in each other's bits.
-pub fn encode_synthesis(answer: Result<Synthesis, Refusal>) -> u64
-    requires { synthesis_letters (numbered answer) < 2 ^ 16 }
-    ensures { WordOf (synthesis_parts (numbered answer)) result }
-{
-    match answer {
-        Ok(
-            Synthesis {
-                count,
-                letters,
-                loose,
-                power,
-            },
-        ) => pack(0, count as u32, letters as u16, loose, power),
-        Err(refusal) => encode_refusal(refusal.number()),
-    }
-}
-
-// The word of the answer of a call that writes as many bytes as its input calls for.
+// How many bytes a call wrote that writes as many as its input calls for.
 // Wrong, and refused: the bytes as a length; a value beside a refusal.
-pub fn encode_wrote(answer: Result<usize, Refusal>) -> u64
-    requires { bytes_of (numbered answer) < 2 ^ 24 }
-    ensures { WordOf (answer_parts (numbered answer)) result }
-{
-    match answer {
-        Ok(bytes) => pack(0, bytes as u32, 0, 0, 0),
-        Err(refusal) => encode_refusal(refusal.number()),
+impl Answer for usize {
+    ghost parts = { answer_parts };
+
+    ghost Room = { λ answer. bytes_of answer < 2 ^ 24 };
+
+    ghost refuses = { λ _. refl };
+
+    fn pack(self) -> u64 {
+        pack(0, self as u32, 0, 0, 0)
     }
 }
 
-// The word of where a part stands.
+// What the call for a sheet answers.
+// Wrong, and refused: L in the bits of the phase; L beside a refusal.
+impl Answer for Cuts {
+    ghost parts = { cuts_parts };
+
+    ghost Room = { λ _. Unit {0} };
+
+    ghost refuses = { λ _. refl };
+
+    fn pack(self) -> u64 {
+        let Cuts { count, loose } = self;
+        pack(0, count as u32, 0, loose, 0)
+    }
+}
+
+// What the call for a gate list answers.
+// Wrong, and refused: the count as the number of letters; a refusal beside a count; L left out; the sign left out; L and the sign in each other's bits.
+impl Answer for Listed {
+    ghost parts = { listed_parts };
+
+    ghost Room = { λ answer. letters_of answer < 2 ^ 16 };
+
+    ghost refuses = { λ _. refl };
+
+    fn pack(self) -> u64 {
+        let Listed {
+            count,
+            letters,
+            loose,
+            sign,
+        } = self;
+        pack(0, count as u32, letters as u16, loose, sign)
+    }
+}
+
+// What the call for a unitary answers.
+// Wrong, and refused: the power of ω left out; L and the power in each other's bits.
+impl Answer for Synthesis {
+    ghost parts = { synthesis_parts };
+
+    ghost Room = { λ answer. synthesis_letters answer < 2 ^ 16 };
+
+    ghost refuses = { λ _. refl };
+
+    fn pack(self) -> u64 {
+        let Synthesis {
+            count,
+            letters,
+            loose,
+            power,
+        } = self;
+        pack(0, count as u32, letters as u16, loose, power)
+    }
+}
+
+// Where a part stands.
 // Wrong, and refused: the first byte and the length in each other's bits; the length left out.
-pub fn encode_part(part: Result<Part, Refusal>) -> u64
-    requires { Placed (numbered part) }
-    ensures { WordOf (part_parts (numbered part)) result }
-{
-    match part {
-        Ok(Part { start, length }) => pack(0, start as u32, length as u16, 0, 0),
-        Err(refusal) => encode_refusal(refusal.number()),
+impl Answer for Part {
+    ghost parts = { part_parts };
+
+    ghost Room = { Placed };
+
+    ghost refuses = { λ _. refl };
+
+    fn pack(self) -> u64 {
+        let Part { start, length } = self;
+        pack(0, start as u32, length as u16, 0, 0)
     }
 }

@@ -21,7 +21,7 @@ pub extern "C" fn dimfrets_operator_to_sheet(input: &[u8], output: &mut [u8]) ->
     ensures { Encodes cuts_parts (SheetPromise input.now output.old output.new) result }
 {
     let answer = operator::operator_to_sheet(input, output);
-    answer_word::encode_cuts(answer)
+    answer_word::encode(answer)
 }
 
 // An operator file into a gate list.
@@ -30,7 +30,7 @@ pub extern "C" fn dimfrets_operator_to_gates(input: &[u8], output: &mut [u8]) ->
     ensures { Encodes listed_parts (GatesPromise input.now output.old output.new) result }
 {
     let answer = operator::operator_to_gates(input, output);
-    answer_word::encode_listed(answer)
+    answer_word::encode(answer)
 }
 
 // A unitary into a gate list.
@@ -39,7 +39,7 @@ pub extern "C" fn dimfrets_unitary_to_gates(input: &[u8], output: &mut [u8]) -> 
     ensures { Encodes synthesis_parts (UnitaryPromise input.now output.old output.new) result }
 {
     let answer = unitary_gates::unitary_to_gates(input, output);
-    answer_word::encode_synthesis(answer)
+    answer_word::encode(answer)
 }
 
 // A gate list into an operator file.
@@ -48,7 +48,7 @@ pub extern "C" fn dimfrets_gates_to_operator(input: &[u8], output: &mut [u8]) ->
     ensures { Encodes answer_parts (ProductPromise input.now output.old output.new) result }
 {
     let answer = gate::gates_to_operator(input, output);
-    answer_word::encode_answer(answer)
+    answer_word::encode(answer)
 }
 
 // A sheet into an operator file.
@@ -57,7 +57,7 @@ pub extern "C" fn dimfrets_sheet_to_operator(input: &[u8], output: &mut [u8]) ->
     ensures { Encodes answer_parts (OperatorPromise input.now output.old output.new) result }
 {
     let answer = sheet::sheet_to_operator(input, output);
-    answer_word::encode_answer(answer)
+    answer_word::encode(answer)
 }
 
 // Where a sheet stands in a bundle.
@@ -67,7 +67,7 @@ pub extern "C" fn dimfrets_bundle_sheet(input: &[u8], n: u64) -> u64
     ensures { WordOf (part_parts (part_of input.now n)) result }
 {
     let part = bundle::bundle_part(input, n);
-    answer_word::encode_part(part)
+    answer_word::encode(part)
 }
 
 // Sheets that are stored end to end into a bundle.
@@ -76,7 +76,7 @@ pub extern "C" fn dimfrets_sheets_to_bundle(input: &[u8], output: &mut [u8]) -> 
     ensures { Encodes answer_parts (BundlePromise input.now output.old output.new) result }
 {
     let answer = bundle_write::sheets_to_bundle(input, output);
-    answer_word::encode_wrote(answer)
+    answer_word::encode(answer)
 }
 
 // A gate list into OpenQASM 2.0 text.
@@ -85,7 +85,7 @@ pub extern "C" fn dimfrets_gates_to_qasm(input: &[u8], output: &mut [u8]) -> u64
     ensures { Encodes answer_parts (TextPromise input.now output.old output.new) result }
 {
     let answer = qasm::gates_to_qasm(input, output);
-    answer_word::encode_wrote(answer)
+    answer_word::encode(answer)
 }
 
 // OpenQASM 2.0 text into a gate list.
@@ -94,7 +94,7 @@ pub extern "C" fn dimfrets_qasm_to_gates(input: &[u8], output: &mut [u8]) -> u64
     ensures { Encodes answer_parts (LettersPromise input.now output.old output.new) result }
 {
     let answer = qasm_read::qasm_to_gates(input, output);
-    answer_word::encode_wrote(answer)
+    answer_word::encode(answer)
 }
 
 // The blocks of a program into their layers.
@@ -103,7 +103,7 @@ pub extern "C" fn dimfrets_blocks_to_layers(input: &[u8], output: &mut [u8]) -> 
     ensures { Encodes answer_parts (LayerPromise input.now output.old output.new) result }
 {
     let answer = layer::blocks_to_layers(input, output);
-    answer_word::encode_answer(answer)
+    answer_word::encode(answer)
 }
 
 // The number of CS states to order.
@@ -113,5 +113,5 @@ pub extern "C" fn dimfrets_states_to_order(t: u64, p: u64) -> u64
     ensures { WordOf (answer_parts (order_answer t p)) result }
 {
     let answer = order::states_to_order(t, p);
-    answer_word::encode_answer(answer)
+    answer_word::encode(answer)
 }

@@ -5,5 +5,5 @@ use Rattle.answer_word.specs.Encoding.{bytes_of}
 use Rattle.dimfrets.specs.Laws.Answers.{text_fits}
 use Rattle.dimfrets.proofs.dimfrets_gates_to_qasm.Goals as goal
 
-pub encode_wrote-requires : goal.encode_wrote-requires
-encode_wrote-requires c = subst (λ a. bytes_of a < 2 ^ 24) (sym c.gates_to_qasm-answer.ensures.answer) (text_fits _ _).1
+pub encode-requires : goal.encode-requires
+encode-requires c = subst (λ a. bytes_of a < 2 ^ 24) (sym c.gates_to_qasm-answer.ensures.answer) (text_fits _ _).1

@@ -2,5 +2,5 @@
 use Rattle.dimfrets.specs.Laws.Answers.{gates_fit}
 use Rattle.dimfrets.proofs.dimfrets_operator_to_gates.Goals as goal
 
-pub encode_listed-requires : goal.encode_listed-requires
-encode_listed-requires c = (gates_fit _ _ _ _ c.operator_to_gates-answer.ensures).1
+pub encode-requires : goal.encode-requires
+encode-requires c = (gates_fit _ _ _ _ c.operator_to_gates-answer.ensures).1

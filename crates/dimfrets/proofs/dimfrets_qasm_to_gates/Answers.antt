@@ -5,5 +5,5 @@ use Rattle.answer_word.specs.Encoding.{bytes_of}
 use Rattle.dimfrets.specs.Laws.Answers.{letters_fit}
 use Rattle.dimfrets.proofs.dimfrets_qasm_to_gates.Goals as goal
 
-pub encode_wrote-requires : goal.encode_wrote-requires
-encode_wrote-requires c = subst (λ a. bytes_of a < 2 ^ 24) (sym c.qasm_to_gates-answer.ensures.answer) (letters_fit _ _).1
+pub encode-requires : goal.encode-requires
+encode-requires c = subst (λ a. bytes_of a < 2 ^ 24) (sym c.qasm_to_gates-answer.ensures.answer) (letters_fit _ _).1

@@ -2,5 +2,5 @@
 use Rattle.dimfrets.specs.Laws.Answers.{unitary_fits}
 use Rattle.dimfrets.proofs.dimfrets_unitary_to_gates.Goals as goal
 
-pub encode_synthesis-requires : goal.encode_synthesis-requires
-encode_synthesis-requires c = (unitary_fits _ _ _ _ c.unitary_to_gates-answer.ensures).1
+pub encode-requires : goal.encode-requires
+encode-requires c = (unitary_fits _ _ _ _ c.unitary_to_gates-answer.ensures).1
