@@ -28,13 +28,7 @@ fn are_on_two(bytes: &[u8], w: usize) -> bool
     requires { (2 ≤ w) × (w ≤ 5) }
     ensures { result ≡ are_on_two w bytes.now }
 {
-    let count = bytes.len() / w;
-    for n in 0..count {
-        if !is_on_two(bytes[w * n], bytes[w * n + 1]) {
-            return false;
-        }
-    }
-    true
+    (0..bytes.len() / w).all(|n| is_on_two(bytes[w * n], bytes[w * n + 1]))
 }
 
 // Whether a program of blocks of w bytes earns no refusal.

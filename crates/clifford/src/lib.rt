@@ -48,13 +48,11 @@ pub fn are_column_bytes(columns: [u8; 6]) -> bool
 pub fn row_of(b: u8) -> u8
     ensures { result ≡ row_of b }
 {
-    if b == 0 {
-        return 0;
+    match b {
+        0 => 0,
+        1..=128 => b - 1,
+        129..=255 => b - 129,
     }
-    if b <= 128 {
-        return b - 1;
-    }
-    b - 129
 }
 
 // The byte of −1 times a column.

@@ -21,10 +21,7 @@ pub const LONGEST: usize = 68;
 fn sign_byte(columns: [u8; 6]) -> u8
     ensures { result ≡ sign_byte columns }
 {
-    if 129 <= columns[0] {
-        return 1;
-    }
-    0
+    (129 <= columns[0]) as u8
 }
 
 // Byte n of the sheet of a normal form.
@@ -54,12 +51,11 @@ fn is_counted(bytes: &[u8]) -> bool
     bytes[0] == bytes.len() as u8 + 56
 }
 
-// Whether the first `count` bytes are generator numbers.
-fn are_numbers(bytes: &[u8], count: usize) -> bool
-    requires { count ≤ length bytes.now }
-    ensures { result ≡ every count (λ n. is_number (get_or bytes.now n 0)) }
+// Whether all bytes are generator numbers.
+fn are_numbers(numbers: &[u8]) -> bool
+    ensures { result ≡ every (length numbers.now) (λ n. is_number (get_or numbers.now n 0)) }
 {
-    bytes[..count].iter().all(|g| (1..=15).contains(g))
+    numbers.iter().all(|g| (1..=15).contains(g))
 }
 
 // The six column bytes, times a sign.
@@ -116,7 +112,7 @@ pub fn check_bytes(bytes: &[u8]) -> Result<(), Refusal>
     if !is_counted(bytes) {
         return Err(Refusal::SheetCount);
     }
-    if !are_numbers(&bytes[1..], bytes.len() - SHORTEST) {
+    if !are_numbers(&bytes[1..bytes.len() - 7]) {
         return Err(Refusal::SheetByte);
     }
     check_columns(columns_from(bytes, 0), bytes[bytes.len() - 1])

@@ -42,6 +42,11 @@ unfolding every_from
 complete_from f a zero h = refl
 complete_from f a (suc k) h = rw (h a (omega arith) (omega arith)) (complete_from f (suc a) k (λ i l u. h i (omega arith) (omega arith)))
 
+pub every_cong : (f g : ℕ → Bool) (a k : ℕ) → ((i : ℕ) → a ≤ i → i < a + k → f i ≡ g i) → every_from f a k ≡ every_from g a k
+unfolding every_from
+every_cong f g a zero h = refl
+every_cong f g a (suc k) h = ap₂ ◌&&◌ (h a (omega arith) (omega arith)) (every_cong f g (suc a) k (λ i l u. h i (omega arith) (omega arith)))
+
 pub every_sound : (n : ℕ) (f : ℕ → Bool) → every n f ≡ true → (i : ℕ) → i < n → f i ≡ true
 every_sound n f e i h = sound_from f 0 n i e (omega arith) (omega arith)
 
