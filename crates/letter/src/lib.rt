@@ -3,10 +3,13 @@
 
 #![tactic(auto)]
 
-ghost use Rattle.std.specs.Prelude.{◌≡◌, true};
+ghost use Rattle.std.specs.Prelude.{◌≡◌, true, ok_or};
+ghost use Rattle.refusal.specs.declared.Refusal.TheVariants as Refusal;
 ghost use Rattle.clifford.specs.Columns.{is_column_byte, are_column_bytes};
 ghost use Rattle.letter.specs.Gate.{letter, gate_of, is_cs};
 ghost use Rattle.letter.specs.Composition.{image_of, composed, composed_gate};
+
+use refusal::Refusal;
 
 // A letter of a gate list (document 01, "Gate images").
 #[derive(Clone, Copy, Debug, PartialEq, Eq)]
@@ -26,31 +29,40 @@ pub enum Gate {
 }
 
 // The ASCII byte of a gate.
-pub fn letter_of(g: Gate) -> u8
-    ensures { result ≡ letter g }
-{
-    match g {
-        Gate::H1 => b'H',
-        Gate::H2 => b'h',
-        Gate::S1 => b'S',
-        Gate::S2 => b's',
-        Gate::Cz => b'Z',
-        Gate::Cs => b'C',
+impl From<Gate> for u8 {
+    ghost from_gives = { λ g b. b ≡ letter g };
+
+    fn from(g: Gate) -> u8 {
+        match g {
+            Gate::H1 => b'H',
+            Gate::H2 => b'h',
+            Gate::S1 => b'S',
+            Gate::S2 => b's',
+            Gate::Cz => b'Z',
+            Gate::Cs => b'C',
+        }
     }
 }
 
 // The gate of a byte; every byte between the letters has none.
-pub fn gate_of(b: u8) -> Option<Gate>
-    ensures { result ≡ gate_of b }
-{
-    match b {
-        b'H' => Some(Gate::H1),
-        b'h' => Some(Gate::H2),
-        b'S' => Some(Gate::S1),
-        b's' => Some(Gate::S2),
-        b'Z' => Some(Gate::Cz),
-        b'C' => Some(Gate::Cs),
-        0..=66 | 68..=71 | 73..=82 | 84..=89 | 91..=103 | 105..=114 | 116..=255 => None,
+impl TryFrom<u8> for Gate {
+    type Error = Refusal;
+
+    ghost try_from_gives = { λ b r. r ≡ ok_or (gate_of b) Refusal.Letter };
+
+    #[tactic(auto, unfolding(crate::specs::Gate::gate_of))]
+    fn try_from(b: u8) -> Result<Gate, Refusal> {
+        match b {
+            b'H' => Ok(Gate::H1),
+            b'h' => Ok(Gate::H2),
+            b'S' => Ok(Gate::S1),
+            b's' => Ok(Gate::S2),
+            b'Z' => Ok(Gate::Cz),
+            b'C' => Ok(Gate::Cs),
+            0..=66 | 68..=71 | 73..=82 | 84..=89 | 91..=103 | 105..=114 | 116..=255 => {
+                Err(Refusal::Letter)
+            }
+        }
     }
 }
 
