@@ -46,7 +46,8 @@ fn offset(bytes: &[u8], count: usize, n: usize) -> usize
     file::two_at(bytes, bytes.len() - (2 * count + 2) + 2 * n)
 }
 
-// Whether the sheets follow one another up to the trailer, as their offsets say.
+// Whether the sheets follow one another up to the trailer, as their offsets say. `count` is the number of sheets that the trailer says, and no length of
+// a buffer. The place goes on by each sheet's length, so a chain would be a `try_fold`, no plainer than a loop that returns.
 fn has_sheets(bytes: &[u8], count: usize) -> bool
     requires { (count ≡ sheet_count bytes.now) × (trailer_length count ≤ length bytes.now) × (count < 65536) }
     ensures { result ≡ has_sheets bytes.now }
@@ -54,11 +55,7 @@ fn has_sheets(bytes: &[u8], count: usize) -> bool
     let mut at = 0usize;
     for n in 0..count {
         let first = byte_at(bytes, at);
-        if first < LEAST_FIRST {
-            return false;
-        }
-        let says = offset(bytes, count, n);
-        if says != at {
+        if first < LEAST_FIRST || offset(bytes, count, n) != at {
             return false;
         }
         at += sheet_length(first);

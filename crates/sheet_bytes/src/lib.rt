@@ -64,11 +64,7 @@ pub fn columns_from(bytes: &[u8], sign: u8) -> [u8; 6]
     ensures { result ≡ signed sign (sheet_columns bytes.now) }
 {
     let at = bytes.len() - 7;
-    let mut columns = [0u8; 6];
-    for c in 0..6 {
-        columns[c] = clifford::signed_byte(bytes[at + c], sign);
-    }
-    columns
+    std::array::from_fn(|c| clifford::signed_byte(bytes[at + c], sign))
 }
 
 // Whether six column bytes are those of a Clifford.

@@ -15,7 +15,7 @@ fn cap(n: u64) -> u64
     n.min(LARGEST_NUMBER)
 }
 
-// A decimal number of any length.
+// A decimal number of any length. Digit by digit: `parse` of the library also takes a sign, and refuses a number too large for its type.
 pub fn read_number(bytes: &[u8]) -> Option<u64>
     ensures { result ≡ number_of bytes.now }
 {
