@@ -55,7 +55,11 @@ fn has_sheets(bytes: &[u8], count: usize) -> bool
     let mut at = 0usize;
     for n in 0..count {
         let first = byte_at(bytes, at);
-        if first < LEAST_FIRST || offset(bytes, count, n) != at {
+        if first < LEAST_FIRST {
+            return false;
+        }
+        let says = offset(bytes, count, n);
+        if says != at {
             return false;
         }
         at += sheet_length(first);
