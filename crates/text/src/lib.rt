@@ -1,78 +1,86 @@
-// Text written into a lent buffer: bytes, decimal numbers, a line of a word and numbers. The contracts cite specs/Text.antt.
-//
-// A function that writes takes the place where it begins and returns the place after what it wrote; the other bytes stay.
+// Text written into a lent buffer: bytes, decimal numbers, a line of a word and numbers. The contracts cite specs/Text.antt and specs/Writer.antt.
 
 #![tactic(auto)]
 
-ghost use Rattle.std.specs.Prelude.{[], ◌∷◌, ◌+◌, ◌<◌, ◌≤◌, length};
-ghost use Rattle.file.specs.File.{Appended};
+ghost use Rattle.std.specs.Prelude.{[], ◌∷◌, ◌≡◌};
 ghost use Rattle.text.specs.Text.{decimal, spaced, line};
+ghost use Rattle.text.specs.Writer.{Room, Writes};
 
-// One byte.
-pub fn write_byte(b: u8, out: &mut [u8], at: usize) -> usize
-    requires { at < length out.old }
-    ensures { Appended (b ∷ []) at out.old out.new result }
-{
-    out[at] = b;
-    at + 1
+// A lent buffer and the place in it where the next byte is written.
+#[derive(Drop)]
+pub struct Writer<'a> {
+    pub out: &'a mut [u8],
+    pub at: usize,
 }
 
-// Bytes as they are. One after the other, for the compiler makes more of that than of `copy_from_slice`, with which a bundle takes twice the instructions.
-pub fn write_bytes(bytes: &[u8], out: &mut [u8], at: usize) -> usize
-    requires { at + length bytes.now ≤ length out.old }
-    ensures { Appended bytes.now at out.old out.new result }
-{
-    for i in 0..bytes.len() {
-        out[at + i] = bytes[i];
+impl<'a> Writer<'a> {
+    // At the front of a buffer.
+    pub fn new(out: &'a mut [u8]) -> Writer<'a>
+        ensures { (result.out.now ≡ out.old) × (result.at ≡ 0) × (result.out.ghost_name ≡ out.entry.ghost_name) }
+    {
+        Writer { out, at: 0 }
     }
-    at + bytes.len()
-}
 
-// A number in decimal.
-pub fn write_decimal(n: u8, out: &mut [u8], at: usize) -> usize
-    requires { at + length (decimal n) ≤ length out.old }
-    ensures { Appended (decimal n) at out.old out.new result }
-{
-    if n < 10 {
-        return write_bytes(&[b'0' + n], out, at);
+    // One byte.
+    pub fn byte(&mut self, b: u8)
+        requires { Room (b ∷ []) self.old }
+        ensures { Writes (b ∷ []) self.old self.new }
+    {
+        self.out[self.at] = b;
+        self.at += 1;
     }
-    if n < 100 {
-        return write_bytes(&[b'0' + n / 10, b'0' + n % 10], out, at);
+
+    // Bytes as they are. One after the other, for the compiler makes more of that than of `copy_from_slice`, with which a bundle takes twice the
+    // instructions.
+    pub fn bytes(&mut self, bytes: &[u8])
+        requires { Room bytes.now self.old }
+        ensures { Writes bytes.now self.old self.new }
+    {
+        for &b in bytes {
+            self.byte(b);
+        }
     }
-    write_bytes(
-        &[b'0' + n / 100, b'0' + n / 10 % 10, b'0' + n % 10],
-        out,
-        at,
-    )
-}
 
-// A space and a number in decimal.
-fn write_after_space(n: u8, out: &mut [u8], at: usize) -> usize
-    requires { at + (1 + length (decimal n)) ≤ length out.old }
-    ensures { Appended (32 ∷ decimal n) at out.old out.new result }
-{
-    let after = write_byte(b' ', out, at);
-    write_decimal(n, out, after)
-}
-
-// Numbers in decimal, a space before each.
-fn write_spaced(numbers: &[u8], out: &mut [u8], at: usize) -> usize
-    requires { at + length (spaced numbers.now) ≤ length out.old }
-    ensures { Appended (spaced numbers.now) at out.old out.new result }
-{
-    let mut next = at;
-    for n in numbers {
-        next = write_after_space(*n, out, next);
+    // A number in decimal.
+    pub fn decimal(&mut self, n: u8)
+        requires { Room (decimal n) self.old }
+        ensures { Writes (decimal n) self.old self.new }
+    {
+        if n < 10 {
+            self.byte(b'0' + n);
+        } else if n < 100 {
+            self.bytes(&[b'0' + n / 10, b'0' + n % 10]);
+        } else {
+            self.bytes(&[b'0' + n / 100, b'0' + n / 10 % 10, b'0' + n % 10]);
+        }
     }
-    next
-}
 
-// A line of a word and numbers.
-pub fn write_line(word: &[u8], numbers: &[u8], out: &mut [u8], at: usize) -> usize
-    requires { at + length (line word.now numbers.now) ≤ length out.old }
-    ensures { Appended (line word.now numbers.now) at out.old out.new result }
-{
-    let after = write_bytes(word, out, at);
-    let end = write_spaced(numbers, out, after);
-    write_byte(b'\n', out, end)
+    // A space and a number in decimal.
+    fn after_space(&mut self, n: u8)
+        requires { Room (32 ∷ decimal n) self.old }
+        ensures { Writes (32 ∷ decimal n) self.old self.new }
+    {
+        self.byte(b' ');
+        self.decimal(n);
+    }
+
+    // Numbers in decimal, a space before each.
+    fn spaced(&mut self, numbers: &[u8])
+        requires { Room (spaced numbers.now) self.old }
+        ensures { Writes (spaced numbers.now) self.old self.new }
+    {
+        for n in numbers {
+            self.after_space(*n);
+        }
+    }
+
+    // A line of a word and numbers.
+    pub fn line(&mut self, word: &[u8], numbers: &[u8])
+        requires { Room (line word.now numbers.now) self.old }
+        ensures { Writes (line word.now numbers.now) self.old self.new }
+    {
+        self.bytes(word);
+        self.spaced(numbers);
+        self.byte(b'\n');
+    }
 }
