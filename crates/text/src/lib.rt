@@ -6,6 +6,8 @@ ghost use Rattle.std.specs.Prelude.{[], ◌∷◌, ◌≡◌};
 ghost use Rattle.text.specs.Text.{decimal, spaced, line};
 ghost use Rattle.text.specs.Writer.{Room, Writes};
 
+use itoa::Buffer;
+
 // A lent buffer and the place in it where the next byte is written.
 #[derive(Drop)]
 pub struct Writer<'a> {
@@ -46,13 +48,7 @@ impl<'a> Writer<'a> {
         requires { Room (decimal n) self.old }
         ensures { Writes (decimal n) self.old self.new }
     {
-        if n < 10 {
-            self.byte(b'0' + n);
-        } else if n < 100 {
-            self.bytes(&[b'0' + n / 10, b'0' + n % 10]);
-        } else {
-            self.bytes(&[b'0' + n / 100, b'0' + n / 10 % 10, b'0' + n % 10]);
-        }
+        self.bytes(Buffer::new().format(n).as_bytes());
     }
 
     // A space and a number in decimal.

@@ -1,8 +1,10 @@
 -- Numbers and lines: how long they are, and how they are put together.
 use Rattle.std.specs.Prelude.{◌≡◌, refl, List, [], ◌∷◌, ◌++◌, ℕ, suc, ◌+◌, ◌*◌, ◌/◌, ◌%◌, ◌≤◌, ◌<◌}
+use Rattle.std.specs.Fmt.{decimal as printed}
 use Rattle.std.proofs.Math.Path.{sym, ap}
 use Rattle.std.proofs.Common.{◌∙◌, append_assoc, append-nil, zero-add, add-one, length-take-le, lt-ltb, le-ltb}
 use Rattle.std.proofs.Math.Decide.{dec_lt}
+use Rattle.std.proofs.lemmas.Fmt.{decimal_by_steps}
 use native.Mathlib.Omega.{arith}
 use Rattle.std.proofs.Math.ListN.{length, get_or, take, drop, length-append}
 use Rattle.std.proofs.Math.Seq.{split_at, take-suc}
@@ -27,6 +29,20 @@ decimal_length n = elim (dec_lt n 10) [
   | yes h ↦ rw (decimal_one n h) (omega arith)
   | no l ↦ elim (dec_lt n 100) [ yes h ↦ rw (decimal_two n (omega arith) h) (omega arith) | no k ↦ rw (decimal_three n (omega arith)) (omega arith) ]
 ]
+
+-- a number's digits are those that std prints of it
+
+more_printed : (n : ℕ) (ds : List ℕ) → 10 ≤ n → (n / 10 < 1000 → decimal (n / 10) ≡ ds) → n < 1000 → decimal n ≡ ds ++ (digit (n % 10) ∷ [])
+more_printed n ds l p h = elim (dec_lt n 100) [
+  | yes k ↦ decimal_two n l k ∙ ap (λ e. e ++ (digit (n % 10) ∷ [])) (sym (decimal_one (n / 10) (omega arith)) ∙ p (omega arith))
+  | no k ↦
+      let q : n / 100 ≡ n / 10 / 10 = omega arith in
+      decimal_three n (omega arith) ∙ ap (λ x. digit x ∷ digit (n / 10 % 10) ∷ digit (n % 10) ∷ []) q
+      ∙ ap (λ e. e ++ (digit (n % 10) ∷ [])) (sym (decimal_two (n / 10) (omega arith) (omega arith)) ∙ p (omega arith))
+]
+
+pub decimal_printed : (n : ℕ) → n < 1000 → decimal n ≡ printed n
+decimal_printed n h = decimal_by_steps (λ n ds. n < 1000 → decimal n ≡ ds) (λ n k _. decimal_one n k) more_printed n (omega arith) h
 
 spaced_append : (xs ys : List ℕ) → spaced (xs ++ ys) ≡ spaced xs ++ spaced ys
 unfolding spaced
