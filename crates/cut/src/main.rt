@@ -6,7 +6,9 @@ ghost use Rattle.io.specs.Counts.{IsPrefixLen};
 ghost use Rattle.file.specs.File.{Appended};
 ghost use Rattle.cut.specs.Output.{cut_text};
 
+use line::Word;
 use std::io::Result;
+use text::Writer;
 
 // The text for a file, at the front of `out`.
 fn answer(file: &[u8], out: &mut [u8; 512]) -> usize
@@ -16,11 +18,13 @@ fn answer(file: &[u8], out: &mut [u8; 512]) -> usize
     match operator::operator_to_sheet(file, &mut sheet) {
         Ok(cuts) => {
             let end = cuts.count as usize + sheet_bytes::SHORTEST;
-            let second = line::write_count(cuts.count, out, 0);
-            let third = line::write_sheet(&sheet[..end], out, second);
-            line::write_loose(cuts.loose, out, third)
+            let mut w = Writer::new(out);
+            line::write_line(Word::Count, &[cuts.count], &mut w);
+            line::write_line(Word::Sheet, &sheet[..end], &mut w);
+            line::write_line(Word::Loose, &[cuts.loose], &mut w);
+            w.at
         }
-        Err(refusal) => line::write_refused(refusal.number(), out, 0),
+        Err(refusal) => line::write_refused(refusal.number(), out),
     }
 }
 

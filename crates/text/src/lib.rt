@@ -2,9 +2,9 @@
 
 #![tactic(auto)]
 
-ghost use Rattle.std.specs.Prelude.{[], ◌∷◌, ◌≡◌};
+ghost use Rattle.std.specs.Prelude.{[], ◌∷◌};
 ghost use Rattle.text.specs.Text.{decimal, spaced, line};
-ghost use Rattle.text.specs.Writer.{Room, Writes};
+ghost use Rattle.text.specs.Writer.{Begins, Room, Writes};
 
 use itoa::Buffer;
 
@@ -18,7 +18,7 @@ pub struct Writer<'a> {
 impl<'a> Writer<'a> {
     // At the front of a buffer.
     pub fn new(out: &'a mut [u8]) -> Writer<'a>
-        ensures { (result.out.now ≡ out.old) × (result.at ≡ 0) × (result.out.ghost_name ≡ out.entry.ghost_name) }
+        ensures { Begins out.entry result }
     {
         Writer { out, at: 0 }
     }

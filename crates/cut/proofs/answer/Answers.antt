@@ -4,46 +4,43 @@ use mathlib.Core.Path.{refl, sym, ap}
 use mathlib.Core.List.{[], ◌∷◌, ◌++◌}
 use Prim.Native.Nat.{◌+◌}
 use native.Mathlib.Omega.{arith}
-use lib.ListN.{take, length-append}
+use lib.ListN.{length, take, length-append}
 use lib.Seq.{length-take-le}
-use Rattle.file.specs.Laws.Written.{appended_as, appended_length, appended_append}
+use Rattle.file.specs.Laws.Written.{appended_as}
 use Rattle.sheet_bytes.specs.Bytes.{shortest}
 use Rattle.text.specs.Text.{refused_word, count_line, sheet_line, loose_line}
 use Rattle.text.specs.Laws.Text.{line_length, within}
+use Rattle.text.specs.Laws.Writer.{room_front, room_after, writes_append, writes_front}
 use Rattle.cut.specs.Laws.Output.{counted, refused}
 use Rattle.cut.proofs.answer.Goals as goal
 
-pub write_count-second-requires : goal.write_count-second-requires
-write_count-second-requires c = let k = counted _ _ _ _ (omega arith) c.in-Ok.ensures _ refl in let r = k.room in omega arith
+pub write_line-requires : goal.write_line-requires
+write_line-requires c = let k = counted _ _ _ _ (omega arith) c.in-Ok.ensures _ refl in let r = k.room in room_front c.new-w.ensures _ (omega arith)
 
 pub slice_bounds-sheet-end : goal.slice_bounds-sheet-end
 slice_bounds-sheet-end c = (counted _ _ _ _ (omega arith) c.in-Ok.ensures _ refl).long
 
-pub slice_bounds-write_sheet-end : goal.slice_bounds-write_sheet-end
-slice_bounds-write_sheet-end c =
+pub slice_bounds-write_line-end-in-Ok : goal.slice_bounds-write_line-end-in-Ok
+slice_bounds-write_line-end-in-Ok c =
     let k = counted _ _ _ _ (omega arith) c.in-Ok.ensures _ refl in
     sym (length-take-le _ _ k.long)
 
-pub write_sheet-third-requires : goal.write_sheet-third-requires
-write_sheet-third-requires c =
+pub write_line-requires-in-Ok : goal.write_line-requires-in-Ok
+write_line-requires-in-Ok c =
     let k = counted _ _ _ _ (omega arith) c.in-Ok.ensures _ refl in
     let r = k.room in
-    let a = c.write_count-second.ensures in
-    let e = a.next in
-    let l = appended_length a (omega arith) in
-    omega arith
+    let l = ap length c.new-w.ensures.buffer in
+    room_after c.write_line.ensures _ (omega arith)
 
-pub write_loose-requires : goal.write_loose-requires
-write_loose-requires c =
+pub write_line-requires-in-Ok-2 : goal.write_line-requires-in-Ok-2
+write_line-requires-in-Ok-2 c =
     let k = counted _ _ _ _ (omega arith) c.in-Ok.ensures _ refl in
     let r = k.room in
+    let l = ap length c.new-w.ensures.buffer in
     let t = c.in-Ok.cuts.count in
     let sheet = take (t + shortest) c.operator_to_sheet.new.out in
     let m = length-append (count_line t) (sheet_line sheet) in
-    let a = appended_append c.write_count-second.ensures (omega arith) c.write_sheet-third.ensures in
-    let e = a.next in
-    let l = appended_length a (omega arith) in
-    omega arith
+    room_after (writes_append c.write_line.ensures (omega arith) c.write_line-in-Ok.ensures) _ (omega arith)
 
 pub write_refused-requires : goal.write_refused-requires
 write_refused-requires c = let l = line_length refused_word (c.number.result ∷ []) in omega arith
@@ -52,12 +49,13 @@ pub returns-in-Ok : goal.returns-in-Ok
 returns-in-Ok c =
     let k = counted _ _ _ _ (omega arith) c.in-Ok.ensures _ refl in
     let r = k.room in
+    let s = ap length c.new-w.ensures.buffer in
     let t = c.in-Ok.cuts.count in
     let sheet = take (t + shortest) c.operator_to_sheet.new.out in
     let m = length-append (count_line t) (sheet_line sheet) in
     let n = length-append (count_line t ++ sheet_line sheet) (loose_line c.in-Ok.cuts.loose) in
-    let two = appended_append c.write_count-second.ensures (omega arith) c.write_sheet-third.ensures in
-    let a = appended_append two (omega arith) c.write_loose.ensures in
+    let two = writes_append c.write_line.ensures (omega arith) c.write_line-in-Ok.ensures in
+    let a = writes_front c.new-w.ensures (writes_append two (omega arith) c.write_line-in-Ok-2.ensures) in
     (appended_as (sym k.text) a, within a (omega arith))
 
 pub returns-in-Err : goal.returns-in-Err

@@ -4,7 +4,7 @@ use Rattle.text.specs.Text.{spaced}
 use Rattle.text.specs.Writer.{Writes}
 use Rattle.text.specs.declared.Writer.{Writer}
 use Rattle.text.specs.Laws.Text.{spaced_next, spaced_room}
-use Rattle.text.specs.Laws.Writer.{writes_none, writes_as, writes_append, writes_length}
+use Rattle.text.specs.Laws.Writer.{writes_none, writes_as, writes_append, room_after}
 use Rattle.text.proofs.Writer.spaced.Goals as goal
 
 none : (w : Writer) → Writes (spaced []) w w
@@ -17,9 +17,7 @@ loop-n-init c = none c.args.self.now
 pub after_space-requires : goal.after_space-requires
 after_space-requires c =
     let r = spaced_room c.args.numbers.now c.loop-n.n-index (omega arith) in
-    let e = c.loop-n.invariant.bytes.next in
-    let k = writes_length c.loop-n.invariant (omega (arith, c.requires)) in
-    omega (arith, c.requires)
+    room_after c.loop-n.invariant _ (omega (arith, c.requires))
 
 pub loop-n-preserved : goal.loop-n-preserved
 loop-n-preserved c =
