@@ -7,7 +7,9 @@ ghost use Rattle.io.specs.Counts.{IsPrefixLen};
 ghost use Rattle.file.specs.File.{Appended};
 ghost use Rattle.layer_blocks.specs.Output.{layer_text};
 
+use line::Word;
 use std::io::Result;
+use text::Writer;
 
 // The text for a program, at the front of `out`.
 // Wrong, and refused: the layers over their number; a refusal one byte late.
@@ -17,10 +19,12 @@ fn answer(blocks: &[u8], out: &mut [u8; 512]) -> usize
     let mut layers = [0u8; block::MOST_BLOCKS];
     match layer::blocks_to_layers(blocks, &mut layers) {
         Ok(count) => {
-            let second = line::write_layers(count, out, 0);
-            line::write_layer(&layers[..blocks.len() / 2], out, second)
+            let mut w = Writer::new(out);
+            line::write_line(Word::Layers, &[count], &mut w);
+            line::write_line(Word::Layer, &layers[..blocks.len() / 2], &mut w);
+            w.at
         }
-        Err(refusal) => line::write_refused(refusal.number(), out, 0),
+        Err(refusal) => line::write_refused(refusal.number(), out),
     }
 }
 

@@ -6,7 +6,9 @@
 ghost use Rattle.io.specs.Counts.{IsPrefixLen};
 ghost use Rattle.list_gates.specs.Output.{Printed};
 
+use line::Word;
 use std::io::Result;
+use text::Writer;
 
 // The text for a file, at the front of `out`.
 fn answer(file: &[u8], out: &mut [u8; 16384]) -> usize
@@ -15,10 +17,12 @@ fn answer(file: &[u8], out: &mut [u8; 16384]) -> usize
     let mut gates = [0u8; gate::GATES_BUFFER];
     match operator::operator_to_gates(file, &mut gates) {
         Ok(list) => {
-            let end = line::write_list(list.count, &gates[..list.letters], list.loose, out);
-            line::write_sign(list.sign, out, end)
+            let mut w = Writer::new(out);
+            line::write_list(list.count, &gates[..list.letters], list.loose, &mut w);
+            line::write_line(Word::Sign, &[list.sign], &mut w);
+            w.at
         }
-        Err(refusal) => line::write_refused(refusal.number(), out, 0),
+        Err(refusal) => line::write_refused(refusal.number(), out),
     }
 }
 

@@ -5,7 +5,9 @@
 ghost use Rattle.io.specs.Counts.{IsPrefixLen};
 ghost use Rattle.list_unitary.specs.Output.{Printed};
 
+use line::Word;
 use std::io::Result;
+use text::Writer;
 
 // The text for the bytes, at the front of `out`.
 // Wrong, and refused: L in the line of the power; the power over L.
@@ -15,10 +17,12 @@ fn answer(bytes: &[u8], out: &mut [u8; 16384]) -> usize
     let mut gates = [0u8; gate::GATES_BUFFER];
     match unitary_gates::unitary_to_gates(bytes, &mut gates) {
         Ok(list) => {
-            let end = line::write_list(list.count, &gates[..list.letters], list.loose, out);
-            line::write_omega(list.power, out, end)
+            let mut w = Writer::new(out);
+            line::write_list(list.count, &gates[..list.letters], list.loose, &mut w);
+            line::write_line(Word::Omega, &[list.power], &mut w);
+            w.at
         }
-        Err(refusal) => line::write_refused(refusal.number(), out, 0),
+        Err(refusal) => line::write_refused(refusal.number(), out),
     }
 }
 

@@ -17,7 +17,7 @@ fn answer(sheets: &[u8], out: &mut [u8; bundle_write::LONGEST_BUNDLE]) -> usize
 {
     match bundle_write::sheets_to_bundle(sheets, out) {
         Ok(bytes) => bytes,
-        Err(refusal) => line::write_refused(refusal.number(), out, 0),
+        Err(refusal) => line::write_refused(refusal.number(), out),
     }
 }
 

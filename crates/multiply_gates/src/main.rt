@@ -17,7 +17,7 @@ fn answer(input: &[u8], out: &mut [u8; 256]) -> usize
     let letters = text_read::without_line_feed(input);
     match gate::gates_to_operator(letters, out) {
         Ok(count) => file::length_for(count),
-        Err(refusal) => line::write_refused(refusal.number(), out, 0),
+        Err(refusal) => line::write_refused(refusal.number(), out),
     }
 }
 

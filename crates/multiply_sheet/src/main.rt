@@ -14,7 +14,7 @@ fn answer(bytes: &[u8], out: &mut [u8; 256]) -> usize
 {
     match sheet::sheet_to_operator(bytes, out) {
         Ok(count) => file::length_for(count),
-        Err(refusal) => line::write_refused(refusal.number(), out, 0),
+        Err(refusal) => line::write_refused(refusal.number(), out),
     }
 }
 

@@ -8,16 +8,22 @@ ghost use Rattle.order.specs.Order.{order_answer};
 ghost use Rattle.text_read.specs.Text.{number_of};
 ghost use Rattle.order_states.specs.Output.{answer_line, order_text};
 
+use line::Word;
 use std::env::{Env, FillError};
 use std::io::Result;
+use text::Writer;
 
 // The line for two numbers, at the front of `out`.
 fn order_line(t: u64, p: u64, out: &mut [u8; 32]) -> usize
     ensures { Appended (answer_line (order_answer t p)) 0 out.old out.new result × IsPrefixLen result out.new }
 {
     match order::states_to_order(t, p) {
-        Ok(states) => line::write_order(states, out, 0),
-        Err(refusal) => line::write_refused(refusal.number(), out, 0),
+        Ok(states) => {
+            let mut w = Writer::new(out);
+            line::write_line(Word::Order, &[states], &mut w);
+            w.at
+        }
+        Err(refusal) => line::write_refused(refusal.number(), out),
     }
 }
 

@@ -29,7 +29,7 @@ fn answer(text: &[u8], out: &mut [u8; gate::LARGEST_LIST]) -> usize
 {
     match qasm_read::qasm_to_gates(text, out) {
         Ok(bytes) => bytes,
-        Err(refusal) => line::write_refused(refusal.number(), out, 0),
+        Err(refusal) => line::write_refused(refusal.number(), out),
     }
 }
 
@@ -117,7 +117,7 @@ fn answer_long<R: Read>(
     ensures err { IfErr result (λ _. out.new ≡ out.old) }
 {
     let refusal = read_on(input, text)?;
-    Ok(line::write_refused(refusal.number(), out, 0))
+    Ok(line::write_refused(refusal.number(), out))
 }
 
 fn main(rt: HostRuntime) -> Result<()> {

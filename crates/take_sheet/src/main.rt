@@ -11,6 +11,7 @@ ghost use Rattle.take_sheet.specs.Input.{KeptOf};
 
 use std::env::{Env, FillError};
 use std::io::{Read, Result};
+use text::Writer;
 
 // One byte more than the longest bundle has: the largest offset, a part of 199 bytes there, and the trailer.
 const LONGER: usize = 65535 + 199 + (2 * bundle::MOST_SHEETS + 2) + 1;
@@ -23,8 +24,12 @@ fn write_sheet(bundle: &[u8], n: u64, out: &mut [u8; 256]) -> usize
     ensures { Appended (sheet_output bundle.now n) 0 out.old out.new result × IsPrefixLen result out.new }
 {
     match bundle::check_bundle(bundle, n) {
-        Ok(()) => text::write_bytes(bundle::bundle_sheet(bundle, n), out, 0),
-        Err(refusal) => line::write_refused(refusal.number(), out, 0),
+        Ok(()) => {
+            let mut w = Writer::new(out);
+            w.bytes(bundle::bundle_sheet(bundle, n));
+            w.at
+        }
+        Err(refusal) => line::write_refused(refusal.number(), out),
     }
 }
 

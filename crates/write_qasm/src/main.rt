@@ -18,7 +18,7 @@ fn answer(input: &[u8], out: &mut [u8; qasm::LONGEST_TEXT]) -> usize
     let letters = text_read::without_line_feed(input);
     match qasm::gates_to_qasm(letters, out) {
         Ok(bytes) => bytes,
-        Err(refusal) => line::write_refused(refusal.number(), out, 0),
+        Err(refusal) => line::write_refused(refusal.number(), out),
     }
 }
 

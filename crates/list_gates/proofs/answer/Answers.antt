@@ -5,9 +5,9 @@ use mathlib.Core.List.{List, [], ◌∷◌, ◌++◌}
 use Prim.Native.Nat.{ℕ, ◌+◌}
 use native.Mathlib.Omega.{arith}
 use lib.ListN.{length, take, length-append}
-use Rattle.file.specs.Laws.Written.{appended_length, appended_append}
 use Rattle.text.specs.Text.{refused_word, count_line, gates_line, loose_line, list_lines, sign_line, refused_line}
 use Rattle.text.specs.Laws.Text.{line_length, within}
+use Rattle.text.specs.Laws.Writer.{room_front, room_after, writes_append, writes_front}
 use Rattle.list_gates.specs.Laws.Output.{lettered, refused}
 use Rattle.list_gates.proofs.answer.Goals as goal
 
@@ -18,21 +18,20 @@ size t loose w =
     let n = length-append (count_line t ++ gates_line w) (loose_line loose) in
     omega arith
 
-pub write_list-end-requires : goal.write_list-end-requires
-write_list-end-requires c =
-    let k = lettered _ _ _ _ (omega arith) c.in-Ok.ensures _ refl in
-    let r = k.room in
-    omega arith
-
-pub write_sign-requires : goal.write_sign-requires
-write_sign-requires c =
+pub write_list-requires : goal.write_list-requires
+write_list-requires c =
     let k = lettered _ _ _ _ (omega arith) c.in-Ok.ensures _ refl in
     let r = k.room in
     let z = size c.in-Ok.list.count c.in-Ok.list.loose (take c.in-Ok.list.letters c.operator_to_gates.new.out) in
-    let a = c.write_list-end.ensures in
-    let e = a.next in
-    let n = appended_length a (omega arith) in
-    omega arith
+    room_front c.new-w.ensures _ (omega arith)
+
+pub write_line-requires : goal.write_line-requires
+write_line-requires c =
+    let k = lettered _ _ _ _ (omega arith) c.in-Ok.ensures _ refl in
+    let r = k.room in
+    let z = size c.in-Ok.list.count c.in-Ok.list.loose (take c.in-Ok.list.letters c.operator_to_gates.new.out) in
+    let l = ap length c.new-w.ensures.buffer in
+    room_after c.write_list.ensures _ (omega arith)
 
 pub write_refused-requires : goal.write_refused-requires
 write_refused-requires c = let l = line_length refused_word (c.number.result ∷ []) in omega arith
@@ -46,7 +45,8 @@ returns-in-Ok c =
     let first = list_lines c.in-Ok.list.count w c.in-Ok.list.loose in
     let last = sign_line c.in-Ok.list.sign in
     let n = length-append first last in
-    let a = appended_append c.write_list-end.ensures (omega arith) c.write_sign.ensures in
+    let l = ap length c.new-w.ensures.buffer in
+    let a = writes_front c.new-w.ensures (writes_append c.write_list.ensures (omega arith) c.write_line.ensures) in
     (record { text = first ++ last; says = k.text; stands = a }, within a (omega arith))
 
 pub returns-in-Err : goal.returns-in-Err

@@ -3,10 +3,11 @@ use mathlib.Core.List.{[], ◌∷◌}
 use native.Mathlib.Omega.{arith}
 use Rattle.text.specs.Text.{order_word, refused_word}
 use Rattle.text.specs.Laws.Text.{line_length}
+use Rattle.text.specs.Laws.Writer.{room_front}
 use Rattle.order_states.proofs.order_line.Goals as goal
 
-pub write_order-requires : goal.write_order-requires
-write_order-requires c = let l = line_length order_word (c.in-Ok.states ∷ []) in omega arith
+pub write_line-requires : goal.write_line-requires
+write_line-requires c = let l = line_length order_word (c.in-Ok.states ∷ []) in room_front c.new-w.ensures _ (omega arith)
 
 pub write_refused-requires : goal.write_refused-requires
 write_refused-requires c = let l = line_length refused_word (c.number.result ∷ []) in omega arith

@@ -7,6 +7,7 @@ use borrow.Author.Tests.{eq-eqb, ne_eqb}
 use Rattle.file.specs.Laws.Written.{appended_as}
 use Rattle.text.specs.Text.{refused_word, refused_line}
 use Rattle.text.specs.Laws.Text.{line_length, within}
+use Rattle.text.specs.Laws.Writer.{writes_front}
 use Rattle.bundle.specs.Bundle.{bundle_refusal}
 use Rattle.take_sheet.specs.Output.{sheet_output}
 use Rattle.take_sheet.proofs.write_sheet.Goals as goal
@@ -26,6 +27,6 @@ returns-in-Err c =
 pub returns-in-Ok : goal.returns-in-Ok
 unfolding sheet_output
 returns-in-Ok c =
-    let a = c.write_bytes.ensures in
+    let a = writes_front c.new-w.ensures c.bytes.ensures in
     let (s, l, _) = c.bundle_sheet.ensures in
     (appended_as (s ∙ rw (eq-eqb (bundle_refusal _ _) 0 (sym c.in-Ok.ensures))) a, within a (omega arith))
