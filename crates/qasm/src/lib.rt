@@ -2,17 +2,18 @@
 
 #![tactic(auto)]
 
-ghost use Rattle.std.specs.Prelude.{◌≡◌, ◌+◌, ◌≤◌, length};
+ghost use Rattle.std.specs.Prelude.{◌≡◌, ◌≤◌, length};
 ghost use Rattle.refusal.specs.Refusal.{numbered};
-ghost use Rattle.file.specs.File.{Appended};
 ghost use Rattle.letter.specs.Gate.{gate_of};
 ghost use Rattle.gate.specs.Reading.{largest_list};
+ghost use Rattle.text.specs.Writer.{Room, Writes};
 ghost use Rattle.qasm.specs.Text.{statement, text_of};
 ghost use Rattle.qasm.specs.Reading.{letters_of, line_of, body_of};
 ghost use Rattle.qasm.specs.Promise.{size, TextPromise};
 
 use letter::Gate;
 use refusal::Refusal;
+use text::Writer;
 
 // The bytes of the first three lines, of the longest statement, and of the longest text that is written.
 pub const FIRST_LENGTH: usize = 47;
@@ -53,17 +54,17 @@ fn statement_length(g: Gate) -> usize
 }
 
 // A statement.
-fn write_statement(g: Gate, out: &mut [u8], at: usize) -> usize
-    requires { at + length (statement g) ≤ length out.old }
-    ensures { Appended (statement g) at out.old out.new result }
+fn write_statement(g: Gate, w: &mut Writer<'_>)
+    requires { Room (statement g) w.old }
+    ensures { Writes (statement g) w.old w.new }
 {
     match g {
-        Gate::H1 => text::write_bytes(&H_FIRST, out, at),
-        Gate::H2 => text::write_bytes(&H_SECOND, out, at),
-        Gate::S1 => text::write_bytes(&S_FIRST, out, at),
-        Gate::S2 => text::write_bytes(&S_SECOND, out, at),
-        Gate::Cz => text::write_bytes(&CZ, out, at),
-        Gate::Cs => text::write_bytes(&CS, out, at),
+        Gate::H1 => w.bytes(&H_FIRST),
+        Gate::H2 => w.bytes(&H_SECOND),
+        Gate::S1 => w.bytes(&S_FIRST),
+        Gate::S2 => w.bytes(&S_SECOND),
+        Gate::Cz => w.bytes(&CZ),
+        Gate::Cs => w.bytes(&CS),
     }
 }
 
@@ -83,26 +84,23 @@ fn text_length(letters: &[u8]) -> Result<usize, Refusal>
 }
 
 // The statement of a letter; that of another byte is none.
-fn write_letter(b: u8, out: &mut [u8], at: usize) -> usize
-    requires { at + length (line_of (gate_of b)) ≤ length out.old }
-    ensures { Appended (line_of (gate_of b)) at out.old out.new result }
+fn write_letter(b: u8, w: &mut Writer<'_>)
+    requires { Room (line_of (gate_of b)) w.old }
+    ensures { Writes (line_of (gate_of b)) w.old w.new }
 {
-    match letter::gate_of(b) {
-        Some(g) => write_statement(g, out, at),
-        None => at,
+    if let Some(g) = letter::gate_of(b) {
+        write_statement(g, w);
     }
 }
 
 // The statements of the letters, from the last to the first.
-fn write_statements(letters: &[u8], out: &mut [u8], at: usize) -> usize
-    requires { at + length (body_of letters.now) ≤ length out.old }
-    ensures { Appended (body_of letters.now) at out.old out.new result }
+fn write_statements(letters: &[u8], w: &mut Writer<'_>)
+    requires { Room (body_of letters.now) w.old }
+    ensures { Writes (body_of letters.now) w.old w.new }
 {
-    let mut next = at;
     for i in (0..letters.len()).rev() {
-        next = write_letter(letters[i], out, next);
+        write_letter(letters[i], w);
     }
-    next
 }
 
 // A gate list into OpenQASM 2.0 text at the front of `out`.
@@ -118,7 +116,8 @@ pub fn gates_to_qasm(letters: &[u8], out: &mut [u8]) -> Result<usize, Refusal>
     if out.len() < length {
         return Err(Refusal::Buffer);
     }
-    let next = text::write_bytes(&FIRST_LINES, out, 0);
-    write_statements(letters, out, next);
+    let mut w = Writer::new(out);
+    w.bytes(&FIRST_LINES);
+    write_statements(letters, &mut w);
     Ok(length)
 }

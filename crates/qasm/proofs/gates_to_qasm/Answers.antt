@@ -1,13 +1,18 @@
 -- Each way out is a case of the definitions; the lines and the statements are the text.
 use Rattle.std.specs.Prelude.{Ok, Err}
+use Rattle.std.specs.Borrow.{MutBor}
+use Rattle.std.proofs.Common.{rules}
 use mathlib.Core.Path.{◌≡◌, sym, ap, ◌∙◌}
 use mathlib.Core.List.{List, flatten}
 use Prim.Native.Nat.{ℕ, ◌+◌, ◌≤◌, ◌<◌}
 use native.Mathlib.Omega.{arith}
 use Rattle.std.proofs.lemmas.Result.{err_from_is_err_and}
 use lib.ListN.{length}
-use Rattle.file.specs.File.{written, Appended}
-use Rattle.file.specs.Laws.Written.{appended_front, appended_append, appended_length}
+use Rattle.file.specs.File.{written}
+use Rattle.file.specs.Laws.Written.{appended_front}
+use Rattle.text.specs.Writer.{Begins, Writes}
+use Rattle.text.specs.declared.Writer.{Writer}
+use Rattle.text.specs.Laws.Writer.{room_front, room_after, writes_append, writes_front}
 use Rattle.gate.specs.Reading.{largest_list}
 use Rattle.qasm.specs.Text.{version_line, include_line, register_line, first_lines, text_of, first_length}
 use Rattle.qasm.specs.Reading.{letters_of, body_of}
@@ -28,18 +33,15 @@ module _ (bs old : List ℕ) (short : length bs ≤ largest_list) where
     too_short : length old < n → TextPromise bs old old (Err 6)
     too_short h = let s = sized text_of (letters_of bs) n e in text_promise (no_room text_of old (letters_short bs short ∙ s.is) s.long h)
 
-    module _ (h : n ≤ length old) {mid : List ℕ} {r : ℕ} (a : Appended (flatten first_lines) 0 old mid r) where
-      first_fits : 0 + length (flatten first_lines) ≤ length old
-      first_fits = let k = long in let l = length_first in omega arith
-
-      body_fits : r + length (body_of bs) ≤ length mid
-      body_fits = let k = long in let l = length_first in let m = appended_length a first_fits in let x = a.next in omega arith
-
-      done : {new : List ℕ} {s : ℕ} → Appended (body_of bs) r mid new s → TextPromise bs old new (Ok n)
-      done b =
-          let s = sized text_of (letters_of bs) n e in
-          text_promise (room text_of old (letters_short bs short ∙ s.is) s.long h
-          (appended_front (appended_append a first_fits b) ∙ ap (written old) (sym (text_of_lem bs s.list s.is))))
+-- the first lines and the statements are the text
+module _ {bs : List ℕ} {out : MutBor (List ℕ)} {w mid last : Writer} (b : Begins out w) (first : Writes (flatten first_lines) w mid) (rest : Writes (body_of bs) mid last) where
+  done : (n : ℕ) → length bs ≤ largest_list → Ok n ≡ size text_of (letters_of bs) → n ≤ length out.now → TextPromise bs out.now last.out.now (Ok n)
+  done n short e h =
+      let s = sized text_of (letters_of bs) n e in
+      let k = long bs out.now short n e in
+      let l = length_first in
+      let a = writes_front b (writes_append first (room_front b _ (omega arith)) rest) in
+      text_promise (room text_of out.now (letters_short bs short ∙ s.is) s.long h (appended_front a ∙ ap (written out.now) (sym (text_of_lem bs s.list s.is))))
 
 pub returns-then-letters-gt-LARGEST_LIST : goal.returns-then-letters-gt-LARGEST_LIST
 returns-then-letters-gt-LARGEST_LIST c = text_promise (refused text_of _ (letters_long _ c.if-letters-gt-LARGEST_LIST.true))
@@ -48,15 +50,16 @@ pub returns-then-out-length : goal.returns-then-out-length
 returns-then-out-length c =
     too_short _ _ (omega arith) _ (c.in_ok-length.ensures) c.if-out-length.true
 
-pub write_bytes-next-requires : goal.write_bytes-next-requires
-write_bytes-next-requires c =
+pub bytes-requires : goal.bytes-requires
+bytes-requires c =
     let k = long _ c.args.out.now (omega arith) _ (c.in_ok-length.ensures) in
-    omega arith
+    room_front c.new-w.ensures _ (omega arith)
 
 pub write_statements-requires : goal.write_statements-requires
-unfolding version_line include_line register_line flatten
 write_statements-requires c =
-    body_fits _ _ (omega arith) _ (c.in_ok-length.ensures) (omega arith) c.write_bytes-next.ensures
+    let k = long _ c.args.out.now (omega arith) _ (c.in_ok-length.ensures) in
+    let l = ap length c.new-w.ensures.buffer in
+    room_after c.bytes.ensures _ (omega arith)
 
 pub returns-in_err-length : goal.returns-in_err-length
 returns-in_err-length c =
@@ -65,4 +68,6 @@ returns-in_err-length c =
 
 pub returns : goal.returns
 unfolding version_line include_line register_line flatten
-returns c = done _ _ (omega arith) _ c.in_ok-length.ensures (omega arith) c.write_bytes-next.ensures c.write_statements.ensures
+returns c =
+    let p = done c.new-w.ensures c.bytes.ensures c.write_statements.ensures _ (omega arith) c.in_ok-length.ensures (omega arith) in
+    search (rules, p)
