@@ -4,11 +4,13 @@
 
 ghost use Rattle.std.specs.Prelude.{Some, None, cond, ◌≡◌, ◌+◌, ◌*◌, ◌<◌, ◌≤◌, length};
 ghost use Rattle.file.specs.File.{Appended};
+ghost use Rattle.text.specs.Writer.{Room, Writes};
 ghost use Rattle.refusal.specs.Refusal.{numbered};
 ghost use Rattle.bundle.specs.Bundle.{most_sheets, trailer_length, length_at, start_of, two_bytes, offsets, bundle_of};
 ghost use Rattle.bundle_write.specs.Writing.{is_whole, stored_count, BundlePromise};
 
 use refusal::Refusal;
+use text::Writer;
 
 // The most bytes of a bundle that is written: for each sheet its own and two of its offset, and two of the number of sheets.
 pub const LONGEST_BUNDLE: usize = bundle::MOST_SHEETS * (sheet_bytes::LONGEST + 2) + 2;
@@ -57,25 +59,23 @@ fn count_sheets(sheets: &[u8]) -> Stored
 }
 
 // 16 bits, low byte first.
-fn write_two(x: usize, out: &mut [u8], at: usize) -> usize
-    requires { (x < 65536) × (at + 2 ≤ length out.old) }
-    ensures { Appended (two_bytes x) at out.old out.new result }
+fn write_two(x: u16, w: &mut Writer<'_>)
+    requires { Room (two_bytes x) w.old }
+    ensures { Writes (two_bytes x) w.old w.new }
 {
-    text::write_bytes(&[(x % 256) as u8, (x / 256) as u8], out, at)
+    w.bytes(&x.to_le_bytes());
 }
 
 // The offsets of the sheets.
-fn write_offsets(sheets: &[u8], count: usize, out: &mut [u8], at: usize) -> usize
-    requires { (count ≡ stored_count sheets.now) × (count ≤ most_sheets) × (at + 2 * count ≤ length out.old) }
-    ensures { Appended (offsets sheets.now count) at out.old out.new result }
+fn write_offsets(sheets: &[u8], count: usize, w: &mut Writer<'_>)
+    requires { (count ≡ stored_count sheets.now) × (count ≤ most_sheets) × Room (offsets sheets.now count) w.old }
+    ensures { Writes (offsets sheets.now count) w.old w.new }
 {
-    let mut next = at;
     let mut start = 0usize;
     for n in 0..count {
-        next = write_two(start, out, next);
+        write_two(start as u16, w);
         start = sheet_end(sheets, start).unwrap();
     }
-    next
 }
 
 // The bundle of the sheets, at the front of `out`.
@@ -83,9 +83,11 @@ fn write_bundle(sheets: &[u8], count: usize, out: &mut [u8]) -> usize
     requires { (count ≡ stored_count sheets.now) × (count ≤ most_sheets) × (length sheets.now + trailer_length count ≤ length out.old) }
     ensures { Appended (bundle_of sheets.now count) 0 out.old out.new result }
 {
-    let offsets = text::write_bytes(sheets, out, 0);
-    let number = write_offsets(sheets, count, out, offsets);
-    write_two(count, out, number)
+    let mut w = Writer::new(out);
+    w.bytes(sheets);
+    write_offsets(sheets, count, &mut w);
+    write_two(count as u16, &mut w);
+    w.at
 }
 
 // Sheets that are stored end to end into a bundle at the front of `out`.

@@ -1,27 +1,33 @@
 -- The sheets, the offsets and the number follow one another.
+use Rattle.std.specs.Prelude.{◌+◌, ◌*◌, length}
+use Rattle.std.proofs.Common.{ap, rules}
 use native.Mathlib.Omega.{arith}
-use Rattle.file.specs.Laws.Written.{appended_length, appended_append}
+use Rattle.text.specs.Laws.Writer.{room_after, writes_append, writes_front}
 use Rattle.bundle.specs.Bundle.{bundle_of}
 use Rattle.bundle.specs.Laws.Made.{length_offsets}
 use Rattle.bundle_write.proofs.write_bundle.Goals as goal
 
+pub write_offsets-requires : goal.write_offsets-requires
+write_offsets-requires c =
+    let (p, q, r) = c.requires in
+    let l = ap length c.new-w.ensures.buffer in
+    let o = length_offsets c.args.sheets.now c.args.count in
+    (p, q, room_after c.bytes.ensures _ (omega arith))
+
 pub write_two-requires : goal.write_two-requires
 write_two-requires c =
+    let (p, q, r) = c.requires in
+    let l = ap length c.new-w.ensures.buffer in
     let o = length_offsets c.args.sheets.now c.args.count in
-    let a = c.write_bytes-offsets.ensures in
-    let d = c.write_offsets-number.ensures in
-    let e = a.next in
-    let f = d.next in
-    let l = appended_length a (omega (arith, c.requires)) in
-    let m = appended_length d (omega (arith, c.requires)) in
-    (omega (arith, c.requires), omega (arith, c.requires))
+    let k = room_after c.bytes.ensures (2 * c.args.count + 2) (omega arith) in
+    room_after c.write_offsets.ensures _ (omega arith)
 
 pub returns : goal.returns
 unfolding bundle_of
 returns c =
+    let (p, q, r) = c.requires in
+    let l = ap length c.new-w.ensures.buffer in
     let o = length_offsets c.args.sheets.now c.args.count in
-    let a = c.write_bytes-offsets.ensures in
-    let e = a.next in
-    let l = appended_length a (omega (arith, c.requires)) in
-    appended_append a (omega (arith, c.requires))
-    (appended_append c.write_offsets-number.ensures (omega (arith, c.requires)) c.write_two.ensures)
+    let k = room_after c.bytes.ensures (2 * c.args.count) (omega arith) in
+    let a = writes_front c.new-w.ensures (writes_append c.bytes.ensures (omega arith) (writes_append c.write_offsets.ensures (omega arith) c.write_two.ensures)) in
+    search (rules, a)
