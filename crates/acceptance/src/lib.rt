@@ -5,20 +5,22 @@
 ghost use Rattle.std.specs.Prelude.{◌≤◌, ◌^◌};
 ghost use Rattle.refusal.specs.Refusal.{numbered};
 ghost use Rattle.matrix.specs.Matrix.{entry};
-ghost use Rattle.matrix.specs.Operator.{operator, Orthogonal};
+ghost use Rattle.matrix.specs.Operator.{Orthogonal};
 ghost use Rattle.matrix.specs.Array.{Bounded};
+ghost use Rattle.matrix.specs.Laws.Array.{operator_of};
 ghost use Rattle.acceptance.specs.Acceptance.{entries_refusal};
 ghost use Rattle.acceptance.specs.Cutting.{CutFrom, CutAs, CutOf};
 
+use matrix::Scaled;
 use reduction::Cut;
 use refusal::Refusal;
 
 // The normal form of an orthogonal operator.
-pub fn cut_orthogonal(k: u8, m: [i64; 36]) -> Cut
-    requires { (k ≤ 60) × Orthogonal (operator k (entry m)) }
-    ensures { CutFrom k m result }
+pub fn cut_orthogonal(operator: &Scaled) -> Cut
+    requires { (operator.now.exponent ≤ 60) × Orthogonal (operator_of operator.now) }
+    ensures { CutFrom operator.now.exponent operator.now.matrix result }
 {
-    let normal = reduction::normal_form(k, m);
+    let normal = reduction::normal_form(*operator);
     let numbers = normal.numbers;
     let columns = clifford::columns_of(normal.matrix);
     Cut {
@@ -30,17 +32,17 @@ pub fn cut_orthogonal(k: u8, m: [i64; 36]) -> Cut
 }
 
 // The normal form of an operator, or the refusal for its entries.
-fn cut_operator(k: u8, m: [i64; 36]) -> Result<Cut, Refusal>
-    requires { (k ≤ 60) × Bounded (2 ^ 31) (entry m) }
-    ensures { CutAs (entries_refusal (operator k (entry m))) k m (numbered result) }
+fn cut_operator(operator: &Scaled) -> Result<Cut, Refusal>
+    requires { (operator.now.exponent ≤ 60) × Bounded (2 ^ 31) (entry operator.now.matrix) }
+    ensures { CutAs (entries_refusal (operator_of operator.now)) operator.now.exponent operator.now.matrix (numbered result) }
 {
-    if !orthogonality::is_within(k, m) {
+    if !orthogonality::is_within(operator) {
         return Err(Refusal::Entry);
     }
-    if !orthogonality::is_orthogonal(k, m) {
+    if !orthogonality::is_orthogonal(operator) {
         return Err(Refusal::NotOrthogonal);
     }
-    let cut = cut_orthogonal(k, m);
+    let cut = cut_orthogonal(operator);
     if !sign::is_even(cut.columns) {
         return Err(Refusal::NotProper);
     }
@@ -54,10 +56,10 @@ pub fn cut_file(bytes: &[u8]) -> Result<Cut, Refusal>
     if !file::is_length(bytes.len()) {
         return Err(Refusal::FileLength);
     }
-    let k = bytes[0];
-    if file::largest_exponent(bytes.len()) < k {
+    let exponent = bytes[0];
+    if file::largest_exponent(bytes.len()) < exponent {
         return Err(Refusal::FileExponent);
     }
-    let m = file::decode(bytes);
-    cut_operator(k, m)
+    let matrix = file::decode(bytes);
+    cut_operator(&Scaled { exponent, matrix })
 }

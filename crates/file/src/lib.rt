@@ -4,9 +4,13 @@
 #![tactic(auto)]
 
 ghost use Rattle.std.specs.Prelude.{◌≡◌, ◌+◌, ◌*◌, ◌^◌, ◌<◌, ◌≤◌, nat_abs, length};
+ghost use Rattle.refusal.specs.Refusal.{numbered};
 ghost use Rattle.matrix.specs.Range.{tabulate};
 ghost use Rattle.file.specs.File.{Appended, Fits, short_file, long_file, bits_of, byte_of, entry_of, exponent_of, file_matrix, file_of, is_length, kind_for, kind_of, length_for, length_of, signed_of, two_at, written};
+ghost use Rattle.file.specs.Writing.{FileWritten};
 
+use matrix::Scaled;
+use refusal::Refusal;
 use std::array;
 
 // The bytes of a short operator file and of a long one.
@@ -137,18 +141,36 @@ fn write_number(u: usize, width: usize, out: &mut [u8], at: usize)
     }
 }
 
-// The file of (k, m), of the kind that k calls for, at the front of `out`; the bytes past it stay.
-pub fn encode(k: u8, m: [i64; 36], out: &mut [u8])
-    requires { (length_for k ≤ length out.old) × Fits (kind_for k) m }
-    ensures { out.new ≡ written out.old (file_of k m) }
+// The file of an operator, of the kind that its exponent calls for, at the front of `out`; the bytes past it stay.
+pub fn encode(operator: &Scaled, out: &mut [u8])
+    requires { (length_for operator.now.exponent ≤ length out.old) × Fits (kind_for operator.now.exponent) operator.now.matrix }
+    ensures { out.new ≡ written out.old (file_of operator.now.exponent operator.now.matrix) }
 {
-    let (width, highest) = if k <= SHORT_EXPONENT {
+    let (width, highest) = if operator.exponent <= SHORT_EXPONENT {
         (2, SHORT_HIGHEST)
     } else {
         (4, LONG_HIGHEST)
     };
-    out[0] = k;
+    out[0] = operator.exponent;
     for n in 0..36 {
-        write_number(unsigned(m[n], highest), width, out, 1 + width * n);
+        write_number(
+            unsigned(operator.matrix[n], highest),
+            width,
+            out,
+            1 + width * n,
+        );
     }
+}
+
+// The same, where `out` has room for it; the exponent is answered.
+// Wrong, and refused: a buffer of 73 bytes taken for a long file; another exponent answered.
+pub fn write_file(operator: &Scaled, out: &mut [u8]) -> Result<u8, Refusal>
+    requires { Fits (kind_for operator.now.exponent) operator.now.matrix }
+    ensures { FileWritten operator.now.exponent operator.now.matrix out.old out.new (numbered result) }
+{
+    if out.len() < length_for(operator.exponent) {
+        return Err(Refusal::Buffer);
+    }
+    encode(operator, out);
+    Ok(operator.exponent)
 }

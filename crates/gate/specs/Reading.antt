@@ -1,7 +1,7 @@
 -- Gate lists read into operators (document 01, "The writer of a gate list").
 use Rattle.std.specs.Prelude.{cond, ◌≡◌, List, [], ◌∷◌, ◌++◌, ℕ, ◌+◌, ◌*◌, ◌≤◌, ltb, length, Option, Some, None, Result, Ok, Err}
 use Rattle.matrix.specs.Matrix.{listed}
-use Rattle.matrix.specs.declared.Least.{Least}
+use Rattle.matrix.specs.declared.Scaled.{Scaled}
 use Rattle.matrix.specs.Array.{least_form}
 use Rattle.file.specs.File.{largest_exponent, length_for, file_of, written}
 use Rattle.letter.specs.declared.Gate.{Gate}
@@ -17,7 +17,7 @@ abbrev pub gates_buffer : ℕ
 gates_buffer = 256 * (largest_exponent + 1)
 
 -- a list's product "over the least power of root two"
-unfoldable pub least_of : List Gate → Least
+unfoldable pub least_of : List Gate → Scaled
 least_of w = least_form (product_of w).exponent (listed (product_of w).matrix)
 
 -- what reading gives: the gates, or the number of a refusal
@@ -41,7 +41,7 @@ unfoldable pub reading : List ℕ → Reading
 reading bs = cond (ltb largest_list (length bs)) (refusal 7) (read_from [] bs)
 
 -- what is kept of a reading
-abbrev pub ReadAs : Reading → Result Least ℕ → Type 0
+abbrev pub ReadAs : Reading → Result Scaled ℕ → Type 0
 ReadAs (gates w) r = (r ≡ Ok (least_of w)) × ((least_of w).exponent ≤ largest_exponent)
 ReadAs (refusal n) r = r ≡ Err n
 

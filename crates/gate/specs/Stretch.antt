@@ -1,7 +1,7 @@
 -- A list read a stretch at a time: the Clifford letters up to a letter C, a byte that is no letter, or the end.
 use Rattle.std.specs.Prelude.{◌≡◌, true, cond, List, ◌++◌, ℕ, ◌+◌, ◌≤◌, ◌<◌, ltb, ℤ, length, get_or, drop, Option, Some, None, Result, Ok, Err}
 use Rattle.matrix.specs.Matrix.{entry, listed, product}
-use Rattle.matrix.specs.declared.Least.{Least}
+use Rattle.matrix.specs.declared.Scaled.{Scaled}
 use Rattle.matrix.specs.Array.{least_form}
 use Rattle.file.specs.File.{largest_exponent}
 use Rattle.clifford.specs.Columns.{columns_matrix, are_permutation}
@@ -17,7 +17,7 @@ abbrev pub times_columns : List ℤ → List ℕ → List ℤ
 times_columns m bs = listed (product 6 (entry m) (columns_matrix bs))
 
 -- a product (k, m) at its least exponent, times the Clifford of these columns
-abbrev pub held : ℕ → List ℤ → List ℕ → Least
+abbrev pub held : ℕ → List ℤ → List ℕ → Scaled
 held k m bs = record { exponent = k; matrix = times_columns m bs }
 
 -- the columns of the Clifford letters before a byte with its letter, where it is one more of them
@@ -48,10 +48,10 @@ pub record StretchOf (bs : List ℕ) (at : ℕ) (r : Stretch) : Type 0 where
 -- ---- one letter
 
 -- a letter more, on the right
-unfoldable pub multiplied : ℕ → List ℤ → Gate → Least
+unfoldable pub multiplied : ℕ → List ℤ → Gate → Scaled
 multiplied k m g = least_form (k + (image g).exponent) (listed (product 6 (entry m) (image g).matrix))
 
 -- one letter behind the product (k, m)
-abbrev pub read_byte : ℕ → List ℤ → Option Gate → Result Least ℕ
+abbrev pub read_byte : ℕ → List ℤ → Option Gate → Result Scaled ℕ
 read_byte k m None = Err 8
 read_byte k m (Some g) = cond (ltb largest_exponent (multiplied k m g).exponent) (Err 9) (Ok (multiplied k m g))

@@ -7,8 +7,8 @@
 
 ghost use Rattle.std.specs.Prelude.{◌≡◌, true, [], ◌≤◌, length};
 ghost use Rattle.refusal.specs.Refusal.{numbered};
-ghost use Rattle.matrix.specs.Matrix.{entry};
-ghost use Rattle.matrix.specs.Operator.{operator, Orthogonal};
+ghost use Rattle.matrix.specs.Operator.{Orthogonal};
+ghost use Rattle.matrix.specs.Laws.Array.{operator_of};
 ghost use Rattle.clifford.specs.Columns.{are_permutation};
 ghost use Rattle.file.specs.File.{largest_exponent};
 ghost use Rattle.letter.specs.Gate.{gate_of};
@@ -16,7 +16,7 @@ ghost use Rattle.gate.specs.Reading.{ReadAs, read_from};
 ghost use Rattle.gate.specs.Stretch.{composed_letter, EndsStretch, StretchOf, times_columns, read_byte};
 ghost use Rattle.gate.specs.Promise.{ProductPromise};
 
-use matrix::Least;
+use matrix::Scaled;
 use refusal::Refusal;
 
 // The columns of a Clifford with the letter of byte b behind it; none where b is no Clifford letter.
@@ -55,42 +55,45 @@ fn read_stretch(letters: &[u8], at: usize) -> Stretch
     }
 }
 
-// The byte that ends a stretch, behind a product (k, m) and the stretch's columns.
-fn read_letter(k: u8, m: [i64; 36], columns: [u8; 6], b: u8) -> Result<Least, Refusal>
-    requires { (k ≤ largest_exponent) × Orthogonal (operator k (entry m)) × (are_permutation columns ≡ true) × EndsStretch (gate_of b) }
-    ensures { numbered result ≡ read_byte k (times_columns m columns) (gate_of b) }
+// The byte that ends a stretch, behind a product and the stretch's columns.
+fn read_letter(product: Scaled, columns: [u8; 6], b: u8) -> Result<Scaled, Refusal>
+    requires { (product.exponent ≤ largest_exponent) × Orthogonal (operator_of product) × (are_permutation columns ≡ true) × EndsStretch (gate_of b) }
+    ensures { numbered result ≡ read_byte product.exponent (times_columns product.matrix columns) (gate_of b) }
 {
     if b != b'C' {
         return Err(Refusal::Letter);
     }
-    let before = times::times_columns(m, columns);
-    let mut matrix = times::times_cs(before);
-    let exponent = matrix::least_form(k + 1, &mut matrix);
-    if file::LARGEST_EXPONENT < exponent {
+    let before = times::times_columns(product.matrix, columns);
+    let mut next = Scaled {
+        exponent: product.exponent + 1,
+        matrix: times::times_cs(before),
+    };
+    matrix::least_form(&mut next);
+    if file::LARGEST_EXPONENT < next.exponent {
         return Err(Refusal::ProductExponent);
     }
-    Ok(Least { exponent, matrix })
+    Ok(next)
 }
 
 // The letters from the left on, a stretch and the letter behind it a turn.
-fn read_letters(letters: &[u8]) -> Result<Least, Refusal>
+fn read_letters(letters: &[u8]) -> Result<Scaled, Refusal>
     ensures { ReadAs (read_from [] letters.now) (numbered result) }
 {
-    let mut exponent = 0;
-    let mut matrix = times::identity();
+    let mut product = Scaled {
+        exponent: 0,
+        matrix: times::identity(),
+    };
     let mut n = 0;
     while n < letters.len() {
         let stretch = read_stretch(letters, n);
         if letters.len() <= stretch.next {
-            let matrix = times::times_columns(matrix, stretch.columns);
-            return Ok(Least { exponent, matrix });
+            product.matrix = times::times_columns(product.matrix, stretch.columns);
+            return Ok(product);
         }
-        let product = read_letter(exponent, matrix, stretch.columns, letters[stretch.next])?;
-        exponent = product.exponent;
-        matrix = product.matrix;
+        product = read_letter(product, stretch.columns, letters[stretch.next])?;
         n = stretch.next + 1;
     }
-    Ok(Least { exponent, matrix })
+    Ok(product)
 }
 
 // The most letters of a gate list.
@@ -109,9 +112,5 @@ pub fn gates_to_operator(letters: &[u8], out: &mut [u8]) -> Result<u8, Refusal>
         return Err(Refusal::ListLength);
     }
     let product = read_letters(letters)?;
-    if out.len() < file::length_for(product.exponent) {
-        return Err(Refusal::Buffer);
-    }
-    file::encode(product.exponent, product.matrix, out);
-    Ok(product.exponent)
+    file::write_file(&product, out)
 }

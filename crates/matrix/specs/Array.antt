@@ -4,7 +4,7 @@ use Rattle.std.specs.Int.Signed.{le_z}
 use Rattle.matrix.specs.Range.{every, first_from, bits, total}
 use Rattle.matrix.specs.Integer.{parity, half, equals}
 use Rattle.matrix.specs.Matrix.{Matrix, δ, replaced, row_product, entry, listed}
-use Rattle.matrix.specs.declared.Least.{Least}
+use Rattle.matrix.specs.declared.Scaled.{Scaled}
 
 -- no entry is larger than b, in size: what rules out overflow
 pub record Bounded (b : ℕ) (M : Matrix) : Type 0 where
@@ -61,11 +61,11 @@ choose true x y = x
 choose false x y = y
 
 -- an exponent and an array of 36 numbers, as `least_form` gives them
-abbrev pub least : ℕ → List ℤ → Least
+abbrev pub least : ℕ → List ℤ → Scaled
 least k m = record { exponent = k; matrix = m }
 
 -- the operator at its least exponent: "where all entries are even and k is at least 2, halving them lowers k by 2"
-unfoldable pub least_form : ℕ → List ℤ → Least
+unfoldable pub least_form : ℕ → List ℤ → Scaled
 least_form zero m = least 0 m
 least_form (suc zero) m = least 1 m
 least_form (suc (suc k)) m =

@@ -6,7 +6,7 @@
 ghost use Rattle.std.specs.Prelude.{◌≡◌, ◌<◌, ◌≤◌, ◌^◌, pos, nat_abs, length, get_or};
 ghost use Rattle.matrix.specs.Integer.{parity};
 ghost use Rattle.matrix.specs.Matrix.{entry, listed, row_product};
-ghost use Rattle.matrix.specs.Array.{Bounded, row_mask, before_odd, halved, half_sums, half_pair, least, least_form};
+ghost use Rattle.matrix.specs.Array.{Bounded, row_mask, before_odd, halved, half_sums, half_pair, least_form};
 
 // The product of rows i and j.
 pub fn row_product(m: &[i64; 36], i: usize, j: usize) -> i64
@@ -57,28 +57,23 @@ pub fn row_mask(m: &[i64; 36], r: usize) -> u8
     mask
 }
 
-// An operator at its least exponent: the exponent and the 36 entries.
-#[derive(Clone, Copy)]
-pub struct Least {
+// A matrix of 36 whole numbers, row by row, with an exponent k (document 01, "Operators"): it stands for the matrix over root two to the power k.
+#[derive(Clone, Copy, Debug, PartialEq, Eq)]
+pub struct Scaled {
     pub exponent: u8,
     pub matrix: [i64; 36],
 }
 
-// (k, m) brought to its least exponent, which is answered. It is brought there in place: most operators are there already, and none is copied.
+// The operator brought to its least exponent, in place: most operators are there already, and none is copied. By value it is slower.
 // Wrong, and refused: an exponent lower by one for each halving; an operator halved whose last entry is odd.
-pub fn least_form(k: u8, m: &mut [i64; 36]) -> u8
-    requires { length m.old ≡ 36 }
-    ensures { least result m.new ≡ least_form k m.old }
+pub fn least_form(operator: &mut Scaled)
+    requires { length operator.old.matrix ≡ 36 }
+    ensures { operator.new ≡ least_form operator.old.exponent operator.old.matrix }
 {
-    let mut exponent = k;
-    while 2 <= exponent {
-        if before_odd(m) != 36 {
-            return exponent;
-        }
-        halve(m);
-        exponent -= 2;
+    while 2 <= operator.exponent && before_odd(&operator.matrix) == 36 {
+        halve(&mut operator.matrix);
+        operator.exponent -= 2;
     }
-    exponent
 }
 
 // The entries x at p and y at q replaced by half of x + y and half of y - x.

@@ -4,10 +4,13 @@
 
 ghost use Rattle.std.specs.Prelude.{◌≡◌, ◌≤◌, ◌^◌};
 ghost use Rattle.matrix.specs.Matrix.{entry, listed};
-ghost use Rattle.matrix.specs.Operator.{operator, Orthogonal, Reduced};
+ghost use Rattle.matrix.specs.Operator.{Orthogonal, Reduced};
 ghost use Rattle.matrix.specs.Array.{Bounded};
+ghost use Rattle.matrix.specs.Laws.Array.{operator_of};
 ghost use Rattle.reduction.specs.Reduction.{cut};
 ghost use Rattle.reduction.specs.Result.{Cuttable, StepOf, Whole, WholeOf};
+
+use matrix::Scaled;
 
 // The most generators that a reduction takes here.
 pub const MAX_GENERATORS: usize = 60;
@@ -36,6 +39,7 @@ pub struct Cut {
     pub loose: u8,
     pub numbers: [u8; 60],
     pub columns: [u8; 6],
+    ghost in_range: { count ≤ 60 },
 }
 
 // Generator g's inverse on the left.
@@ -69,21 +73,21 @@ pub fn cut_once(m: [i64; 36]) -> Step
 }
 
 // The cutting of a reduced orthogonal operator, one generator a turn.
-fn reduce(k: u8, m: [i64; 36]) -> Normal
-    requires { (k ≤ 60) × Orthogonal (operator k (entry m)) × Reduced (operator k (entry m)) }
-    ensures { Whole k m result }
+fn reduce(operator: Scaled) -> Normal
+    requires { (operator.exponent ≤ 60) × Orthogonal (operator_of operator) × Reduced (operator_of operator) }
+    ensures { Whole operator.exponent operator.matrix result }
 {
     let mut numbers = [0u8; 60];
     let mut loose = 0u8;
-    let mut matrix = m;
-    for n in 0..k {
+    let mut matrix = operator.matrix;
+    for n in 0..operator.exponent {
         let step = cut_once(matrix);
         numbers[n as usize] = step.number;
         loose += step.loose as u8;
         matrix = step.matrix;
     }
     Normal {
-        count: k,
+        count: operator.exponent,
         loose,
         numbers,
         matrix,
@@ -91,11 +95,10 @@ fn reduce(k: u8, m: [i64; 36]) -> Normal
 }
 
 // The cutting of an orthogonal operator, from its least exponent.
-pub fn normal_form(k: u8, m: [i64; 36]) -> Normal
-    requires { (k ≤ 60) × Orthogonal (operator k (entry m)) }
-    ensures { WholeOf k m result }
+pub fn normal_form(mut operator: Scaled) -> Normal
+    requires { (operator.exponent ≤ 60) × Orthogonal (operator_of operator) }
+    ensures { WholeOf operator.exponent operator.matrix result }
 {
-    let mut matrix = m;
-    let exponent = matrix::least_form(k, &mut matrix);
-    reduce(exponent, matrix)
+    matrix::least_form(&mut operator);
+    reduce(operator)
 }

@@ -3,18 +3,18 @@ use Rattle.std.specs.Prelude.{not, cond, List, ◌≡◌, ℕ, ◌+◌, eqb, ltb
 use Rattle.matrix.specs.List.{same_list}
 use Rattle.matrix.specs.Operator.{SameOperator, LeastExponent}
 use Rattle.refusal.specs.Refusal.{RefusedOr}
-use Rattle.matrix.specs.declared.Least.{Least}
+use Rattle.matrix.specs.declared.Scaled.{Scaled}
 use Rattle.matrix.specs.Array.{least_form}
 use Rattle.file.specs.File.{file_exponent, file_operator, length_for, file_of, written}
 use Rattle.sheet_bytes.specs.Bytes.{shortest, count_byte, sheet, sheet_operator}
 use Rattle.sheet_bytes.specs.Sheet.{sheet_refusal, sheet_least}
 
 -- what is kept of an operator that is to have this sheet: the operator at the least exponent, or 13
-abbrev pub CutAgain : List ℕ → ℕ → List ℤ → Result Least ℕ → Type 0
+abbrev pub CutAgain : List ℕ → ℕ → List ℤ → Result Scaled ℕ → Type 0
 CutAgain s k m r = RefusedOr (cond (not (same_list (sheet k m) s)) 13 0) (λ l. l ≡ least_form k m) r
 
 -- what is kept of a sheet: its operator at the least exponent, or its refusal
-abbrev pub SheetRead : List ℕ → Result Least ℕ → Type 0
+abbrev pub SheetRead : List ℕ → Result Scaled ℕ → Type 0
 SheetRead s r = RefusedOr (sheet_refusal s) (λ l. l ≡ sheet_least s) r
 
 -- the operator file of a sheet: "Files written by us carry the least exponent"

@@ -14,7 +14,7 @@ ghost use Rattle.sheet_bytes.specs.Bytes.{sheet_bytes};
 ghost use Rattle.sheet_bytes.specs.Sheet.{is_number};
 ghost use Rattle.sheet.specs.Promise.{CutAgain, SheetRead, OperatorPromise};
 
-use matrix::Least;
+use matrix::Scaled;
 use reduction::Cut;
 use refusal::Refusal;
 
@@ -48,7 +48,7 @@ fn is_sheet(bytes: &[u8], cut: &Cut) -> bool
 }
 
 // The operator (count, m) at its least exponent, if cutting it gives these bytes.
-fn cut_again(bytes: &[u8], count: u8, m: [i64; 36]) -> Result<Least, Refusal>
+fn cut_again(bytes: &[u8], count: u8, m: [i64; 36]) -> Result<Scaled, Refusal>
     requires { (count ≤ 60) × Orthogonal (operator count (entry m)) }
     ensures { CutAgain bytes.now count m (numbered result) }
 {
@@ -57,11 +57,11 @@ fn cut_again(bytes: &[u8], count: u8, m: [i64; 36]) -> Result<Least, Refusal>
     }
     let mut matrix = m;
     let exponent = matrix::least_form(count, &mut matrix);
-    Ok(Least { exponent, matrix })
+    Ok(Scaled { exponent, matrix })
 }
 
 // The operator of a sheet at its least exponent, or the sheet's refusal.
-fn read_sheet(bytes: &[u8]) -> Result<Least, Refusal>
+fn read_sheet(bytes: &[u8]) -> Result<Scaled, Refusal>
     ensures { SheetRead bytes.now (numbered result) }
 {
     sheet_bytes::check_bytes(bytes)?;

@@ -3,7 +3,7 @@ use Rattle.std.specs.Prelude.{Bool, not, cond, ◌&&◌, ◌||◌, List, ◌≡�
 use Rattle.matrix.specs.List.{same_list}
 use Rattle.matrix.specs.Range.{every}
 use Rattle.matrix.specs.Matrix.{listed}
-use Rattle.matrix.specs.declared.Least.{Least}
+use Rattle.matrix.specs.declared.Scaled.{Scaled}
 use Rattle.matrix.specs.Array.{least_form}
 use Rattle.clifford.specs.Columns.{are_column_bytes, are_permutation, is_even, is_minus}
 use Rattle.sheet_bytes.specs.Bytes.{shortest, longest, sheet_of, sheet_columns, sheet_sign, sheet_operator}
@@ -53,5 +53,5 @@ unfoldable pub sheet_refusal : List ℕ → ℕ
 sheet_refusal s = sheet_refusal_to longest s
 
 -- a sheet's operator at its least exponent
-unfoldable pub sheet_least : List ℕ → Least
+unfoldable pub sheet_least : List ℕ → Scaled
 sheet_least s = least_form (sheet_operator s).exponent (listed (sheet_operator s).matrix)

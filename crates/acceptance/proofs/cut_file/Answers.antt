@@ -23,19 +23,19 @@ pub returns-then-not-is_length : goal.returns-then-not-is_length
 unfolding file_refusal
 returns-then-not-is_length c = rw (sym c.is_length.ensures ∙ not-true _ c.if-not-is_length.true-raw) (refl, omega arith)
 
-pub returns-then-largest_exponent-k : goal.returns-then-largest_exponent-k
-returns-then-largest_exponent-k c =
+pub returns-then-largest_exponent-exponent : goal.returns-then-largest_exponent-exponent
+returns-then-largest_exponent-exponent c =
     let e = c.largest_exponent.ensures in
-    rw (too_deep c.args.bytes.now ((let sized' : let n = length c.args.bytes.now in n ≡ length_of (kind_of n) = length_is _ (sym c.is_length.ensures ∙ not-false _ c.if-not-is_length.false-raw) in sized')) (omega (arith, c.if-largest_exponent-k.true))) (refl, omega arith)
+    rw (too_deep c.args.bytes.now ((let sized' : let n = length c.args.bytes.now in n ≡ length_of (kind_of n) = length_is _ (sym c.is_length.ensures ∙ not-false _ c.if-not-is_length.false-raw) in sized')) (omega (arith, c.if-largest_exponent-exponent.true))) (refl, omega arith)
 
 pub cut_operator-requires : goal.cut_operator-requires
 cut_operator-requires c =
-    let f = range_most _ ((let formed' : InForm c.args.bytes.now = record { size = (let sized' : let n = length c.args.bytes.now in n ≡ length_of (kind_of n) = length_is _ (sym c.is_length.ensures ∙ not-false _ c.if-not-is_length.false-raw) in sized'); range = let e = c.largest_exponent.ensures in omega (arith, c.if-largest_exponent-k.false) } in formed')) in
-    (f, rw c.decode-m.ensures (file_bounded _ (λ i. (c.shared_slice_known-2-1.given i).fits)))
+    let f = range_most _ ((let formed' : InForm c.args.bytes.now = record { size = (let sized' : let n = length c.args.bytes.now in n ≡ length_of (kind_of n) = length_is _ (sym c.is_length.ensures ∙ not-false _ c.if-not-is_length.false-raw) in sized'); range = let e = c.largest_exponent.ensures in omega (arith, c.if-largest_exponent-exponent.false) } in formed')) in
+    (f, rw c.decode-matrix.ensures (file_bounded _ (λ i. (c.shared_slice_known-2-1.given i).fits)))
 
 pub returns : goal.returns
 returns c =
-    let f = (let formed' : InForm c.args.bytes.now = record { size = (let sized' : let n = length c.args.bytes.now in n ≡ length_of (kind_of n) = length_is _ (sym c.is_length.ensures ∙ not-false _ c.if-not-is_length.false-raw) in sized'); range = let e = c.largest_exponent.ensures in omega (arith, c.if-largest_exponent-k.false) } in formed') in
+    let f = (let formed' : InForm c.args.bytes.now = record { size = (let sized' : let n = length c.args.bytes.now in n ≡ length_of (kind_of n) = length_is _ (sym c.is_length.ensures ∙ not-false _ c.if-not-is_length.false-raw) in sized'); range = let e = c.largest_exponent.ensures in omega (arith, c.if-largest_exponent-exponent.false) } in formed') in
     let b = c.args.bytes.now in
     rw (in_form b f)
-    (subst (λ m. CutAs (entries_refusal (operator (file_exponent b) (entry m))) (file_exponent b) m (numbered c.cut_operator.result)) c.decode-m.ensures c.cut_operator.ensures)
+    (subst (λ m. CutAs (entries_refusal (operator (file_exponent b) (entry m))) (file_exponent b) m (numbered c.cut_operator.result)) c.decode-matrix.ensures c.cut_operator.ensures)

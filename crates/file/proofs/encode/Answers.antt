@@ -9,7 +9,7 @@ use Rattle.matrix.specs.Range.{tabulate}
 use Rattle.file.specs.File.{short_exponent, length_of, width_of, highest_of, kind_for, bits_of, byte_of, Appended}
 use Rattle.file.specs.Laws.Encoding.{stored_entry, Begun, begun_none, begun_more, begun_all}
 use Rattle.file.proofs.encode.Goals as goal
-use Rattle.file.proofs.encode.Goals.{then-k-le-SHORT_EXPONENT, else-k-le-SHORT_EXPONENT}
+use Rattle.file.proofs.encode.Goals.{then-operator-le-SHORT_EXPONENT, else-operator-le-SHORT_EXPONENT}
 
 -- the width of an entry and the worth of its highest bit, by the exponent
 abbrev sizes : ℕ → ℕ × ℕ
@@ -31,21 +31,22 @@ module _ (k : ℕ) (p : ℕ × ℕ) (s : p ≡ sizes k) (m : List ℤ) (n : ℕ)
 pub loop-n-init : goal.loop-n-init
 loop-n-init c =
     let a = c.args in
-    (rw (length-set a.out.now 0 a.k) c.requires.0, begun_none (kind_for a.k) a.k a.m a.out.now c.requires.0)
+    let k = a.operator.now.exponent in
+    (rw (length-set a.out.now 0 k) c.requires.0, begun_none (kind_for k) k a.operator.now.matrix a.out.now c.requires.0)
 
 pub loop-n-preserved : goal.loop-n-preserved
 loop-n-preserved c =
-    let a = c.args in
+    let o = c.args.operator.now in
     let l = c.loop-n in
     let u = c.unsigned in
-    let p = c.if-k-le-SHORT_EXPONENT.width in
-    let s : p ≡ sizes a.k =
-    elim c.if-k-le-SHORT_EXPONENT.branch [
-      | then-k-le-SHORT_EXPONENT w ↦ w.width-is ∙ short a.k w.if-k-le-SHORT_EXPONENT.true
-      | else-k-le-SHORT_EXPONENT w ↦ w.width-is ∙ long a.k w.if-k-le-SHORT_EXPONENT.false
+    let p = c.if-operator-le-SHORT_EXPONENT.width in
+    let s : p ≡ sizes o.exponent =
+    elim c.if-operator-le-SHORT_EXPONENT.branch [
+      | then-operator-le-SHORT_EXPONENT w ↦ w.width-is ∙ short o.exponent w.if-operator-le-SHORT_EXPONENT.true
+      | else-operator-le-SHORT_EXPONENT w ↦ w.width-is ∙ long o.exponent w.if-operator-le-SHORT_EXPONENT.false
     ] in
-    let e = u.ensures ∙ ap (bits_of p.1) (stored_entry (kind_for a.k) a.m c.requires.1 l.n (omega arith)) in
-    (l.invariant.0, turn a.k p s a.m l.n _ _ l.invariant.1 l.invariant.0 c.loop-n-test.true u.result e _ c.write_number.ensures)
+    let e = u.ensures ∙ ap (bits_of p.1) (stored_entry (kind_for o.exponent) o.matrix c.requires.1 l.n (omega arith)) in
+    (l.invariant.0, turn o.exponent p s o.matrix l.n _ _ l.invariant.1 l.invariant.0 c.loop-n-test.true u.result e _ c.write_number.ensures)
 
 pub returns : goal.returns
-returns c = begun_all (kind_for c.args.k) c.args.k c.args.m c.loop-n.n c.args.out.now _ (omega arith) c.loop-n.invariant.1
+returns c = let o = c.args.operator.now in begun_all (kind_for o.exponent) o.exponent o.matrix c.loop-n.n c.args.out.now _ (omega arith) c.loop-n.invariant.1

@@ -6,4 +6,4 @@ use Rattle.file.specs.Laws.Encoding.{Begun}
 use Rattle.file.proofs.encode.Given as goal
 
 abbrev pub invariant-loop-n : goal.invariant-loop-n
-invariant-loop-n l = (length_for l.k ≤ length l.initial.out) × Begun (kind_for l.k) l.k l.m l.n l.initial.out l.out
+invariant-loop-n l = (length_for l.operator.exponent ≤ length l.initial.out) × Begun (kind_for l.operator.exponent) l.operator.exponent l.operator.matrix l.n l.initial.out l.out

@@ -8,9 +8,10 @@ use Rattle.std.proofs.lemmas.Result.{err_from_is_err_and}
 use lib.ListN.{length}
 use borrow.Author.Tests.{lt-ltb, le-ltb}
 use Rattle.file.specs.File.{kind_for, length_for, file_of, written, Fits}
+use Rattle.file.specs.Writing.{file_answer, file_buffer, FileWritten}
 use Rattle.file.specs.Laws.File.{orthogonal_fits}
 use Rattle.refusal.specs.Laws.Refusal.{ok_err, same_ok, same_err}
-use Rattle.matrix.specs.declared.Least.{Least}
+use Rattle.matrix.specs.declared.Scaled.{Scaled}
 use Rattle.gate.specs.Reading.{largest_list, least_of, Reading, gates, refusal, read_from, reading, ReadAs, operator_answer, operator_buffer}
 use Rattle.gate.specs.Promise.{ProductPromise}
 use Rattle.gate.specs.Laws.Reading.{least_of_orthogonal, promised}
@@ -36,22 +37,14 @@ module _ (old : List ℕ) where
   refused (gates w) n p = absurd (ok_err (sym p.0))
   refused (refusal m) n p = (ap Err (same_err p), refl)
 
-  module _ (r : Least) where
-    no_room : (x : Reading) → ReadAs x (Ok r) → length old < length_for r.exponent → Done old x (Err 6) old
-    no_room (gates w) p h =
-        rw (lt-ltb (length old) (length_for (least_of w).exponent) (subst (λ (l : Least). length old < length_for l.exponent) (same_ok p.0) h)) (refl, refl)
-    no_room (refusal n) p h = absurd (ok_err p)
-
-    room : (x : Reading) (new : List ℕ) → ReadAs x (Ok r) → length_for r.exponent ≤ length old → new ≡ written old (file_of r.exponent r.matrix) → Done old x (Ok r.exponent) new
-    room (gates w) new p h e =
-        let z = same_ok p.0 in
-        rw (le-ltb (length old) (length_for (least_of w).exponent) (subst (λ (l : Least). length_for l.exponent ≤ length old) z h))
-        (ap (λ (l : Least). Ok l.exponent) z, e ∙ ap (λ (l : Least). written old (file_of l.exponent l.matrix)) z)
-    room (refusal n) new p h e = absurd (ok_err p)
+  module _ (r : Scaled) where
+    wrote : (x : Reading) (a : Result ℕ ℕ) (new : List ℕ) → ReadAs x (Ok r) → FileWritten r.exponent r.matrix old new a → Done old x a new
+    wrote (gates w) a new p f = subst (λ (l : Scaled). (a ≡ file_answer l.exponent (length old)) × (new ≡ file_buffer l.exponent l.matrix old)) (same_ok p.0) (f.answer, f.buffer)
+    wrote (refusal n) a new p f = absurd (ok_err p)
 
     fits : (x : Reading) → ReadAs x (Ok r) → Fits (kind_for r.exponent) r.matrix
     fits (gates w) p =
-        subst (λ (l : Least). Fits (kind_for l.exponent) l.matrix) (sym (same_ok p.0)) (orthogonal_fits (least_of w).exponent (least_of w).matrix p.1 (least_of_orthogonal w))
+        subst (λ (l : Scaled). Fits (kind_for l.exponent) l.matrix) (sym (same_ok p.0)) (orthogonal_fits (least_of w).exponent (least_of w).matrix p.1 (least_of_orthogonal w))
     fits (refusal n) p = absurd (ok_err p)
 
 -- of a list that is not too long
@@ -64,17 +57,8 @@ returns-then-letters-gt-LARGEST_LIST c = too_long_lem _ _ c.if-letters-gt-LARGES
 pub returns-in_err-product : goal.returns-in_err-product
 returns-in_err-product c = let p = err_from_is_err_and c.from_residual.result c.from_residual.ensures.1 in rw (p.1, p.2) (of_list _ _ (omega arith) (refused _ (read_from [] c.args.letters.now) _ c.in_err-product.ensures))
 
-pub returns-then-out-length_for : goal.returns-then-out-length_for
-returns-then-out-length_for c =
-    let e = c.length_for.ensures in
-    of_list _ _ (omega arith) (no_room _ _ (read_from [] c.args.letters.now) c.in_ok-product.ensures (omega (arith, c.if-out-length_for.true)))
-
-pub encode-requires : goal.encode-requires
-encode-requires c =
-    let e = c.length_for.ensures in
-    (omega (arith, c.if-out-length_for.false), fits [] _ (read_from [] c.args.letters.now) c.in_ok-product.ensures)
+pub write_file-requires : goal.write_file-requires
+write_file-requires c = fits [] _ (read_from [] c.args.letters.now) c.in_ok-product.ensures
 
 pub returns : goal.returns
-returns c =
-    let e = c.length_for.ensures in
-    of_list _ _ (omega arith) (room _ _ (read_from [] c.args.letters.now) _ c.in_ok-product.ensures (omega (arith, c.if-out-length_for.false)) c.encode.ensures)
+returns c = of_list _ _ (omega arith) (wrote _ _ (read_from [] c.args.letters.now) _ _ c.in_ok-product.ensures c.write_file.ensures)

@@ -9,7 +9,7 @@ use lib.Dec.{ltb}
 use lib.IntN.{ℤ}
 use borrow.Author.Tests.{lt-ltb, le-ltb}
 use Rattle.matrix.specs.Matrix.{entry, listed, product}
-use Rattle.matrix.specs.declared.Least.{Least}
+use Rattle.matrix.specs.declared.Scaled.{Scaled}
 use Rattle.matrix.specs.Array.{least_form}
 use Rattle.matrix.specs.Laws.Array.{orthogonal_bounded}
 use Rattle.file.specs.File.{largest_exponent}
@@ -23,7 +23,7 @@ use Rattle.gate.specs.Laws.Stretch.{held_orthogonal, no_letter}
 use Rattle.gate.proofs.read_letter.Goals as goal
 
 -- a letter C behind (k, m), where f is the product
-module _ (k : ℕ) (m : List ℤ) (b : ℕ) (is : b ≡ 67) (f : Least) (e : f ≡ least_form (k + 1) (listed (product 6 (entry m) (generator 3)))) where
+module _ (k : ℕ) (m : List ℤ) (b : ℕ) (is : b ≡ 67) (f : Scaled) (e : f ≡ least_form (k + 1) (listed (product 6 (entry m) (generator 3)))) where
   known : gate_of b ≡ Some Cs
   known = ap gate_of is ∙ gate_of_letter Cs
 
@@ -32,7 +32,7 @@ module _ (k : ℕ) (m : List ℤ) (b : ℕ) (is : b ≡ 67) (f : Least) (e : f �
   more = e
 
   test : (t : Bool) → ltb largest_exponent f.exponent ≡ t → ltb largest_exponent (multiplied k m Cs).exponent ≡ t
-  test t h = ap (λ (x : Least). ltb largest_exponent x.exponent) (sym more) ∙ h
+  test t h = ap (λ (x : Scaled). ltb largest_exponent x.exponent) (sym more) ∙ h
 
   deep : largest_exponent < f.exponent → Err 9 ≡ read_byte k m (gate_of b)
   deep h = rw (known, test true (lt-ltb largest_exponent f.exponent h)) refl
@@ -45,17 +45,17 @@ returns-then-b-ne67 c = rw (no_letter c.args.b c.requires.3 c.if-b-ne67.true) re
 
 pub times_columns-before-requires : goal.times_columns-before-requires
 times_columns-before-requires c =
-    (c.requires.2, orthogonal_bounded c.args.k 30 (entry c.args.m) c.requires.1 (omega arith))
+    (c.requires.2, orthogonal_bounded c.args.product.exponent 30 (entry c.args.product.matrix) c.requires.1 (omega arith))
 
-pub times_cs-matrix-requires : goal.times_cs-matrix-requires
-times_cs-matrix-requires c =
+pub times_cs-requires : goal.times_cs-requires
+times_cs-requires c =
     rw c.times_columns-before.ensures
-    (orthogonal_bounded c.args.k 30 (entry (times_columns c.args.m c.args.columns)) (held_orthogonal c.args.k c.args.m c.args.columns c.requires.2 c.requires.1) (omega arith))
+    (orthogonal_bounded c.args.product.exponent 30 (entry (times_columns c.args.product.matrix c.args.columns)) (held_orthogonal c.args.product.exponent c.args.product.matrix c.args.columns c.requires.2 c.requires.1) (omega arith))
 
-pub returns-then-exponent-gt-LARGEST_EXPONENT : goal.returns-then-exponent-gt-LARGEST_EXPONENT
-returns-then-exponent-gt-LARGEST_EXPONENT c =
-    deep c.args.k (times_columns c.args.m c.args.columns) c.args.b (omega arith) _ ((c.least_form-exponent.ensures ∙ ap (least_form (c.args.k + 1)) (c.times_cs-matrix.ensures ∙ ap (λ x. listed (product 6 (entry x) (generator 3))) c.times_columns-before.ensures))) c.if-exponent-gt-LARGEST_EXPONENT.true
+pub returns-then-next-gt-LARGEST_EXPONENT : goal.returns-then-next-gt-LARGEST_EXPONENT
+returns-then-next-gt-LARGEST_EXPONENT c =
+    deep c.args.product.exponent (times_columns c.args.product.matrix c.args.columns) c.args.b (omega arith) _ ((c.least_form.ensures ∙ ap (least_form (c.args.product.exponent + 1)) (c.times_cs.ensures ∙ ap (λ x. listed (product 6 (entry x) (generator 3))) c.times_columns-before.ensures))) c.if-next-gt-LARGEST_EXPONENT.true
 
 pub returns : goal.returns
 returns c =
-    shallow c.args.k (times_columns c.args.m c.args.columns) c.args.b (omega arith) _ ((c.least_form-exponent.ensures ∙ ap (least_form (c.args.k + 1)) (c.times_cs-matrix.ensures ∙ ap (λ x. listed (product 6 (entry x) (generator 3))) c.times_columns-before.ensures))) c.if-exponent-gt-LARGEST_EXPONENT.false
+    shallow c.args.product.exponent (times_columns c.args.product.matrix c.args.columns) c.args.b (omega arith) _ ((c.least_form.ensures ∙ ap (least_form (c.args.product.exponent + 1)) (c.times_cs.ensures ∙ ap (λ x. listed (product 6 (entry x) (generator 3))) c.times_columns-before.ensures))) c.if-next-gt-LARGEST_EXPONENT.false

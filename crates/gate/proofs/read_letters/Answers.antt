@@ -6,15 +6,15 @@ use Rattle.gate.specs.Laws.Letters.{read_none, read_orthogonal, read_all, read_s
 use Rattle.gate.proofs.read_letters.Goals as goal
 
 pub loop-n-init : goal.loop-n-init
-loop-n-init c = read_none _ _ c.identity-matrix.ensures
+loop-n-init c = read_none _ _ c.identity.ensures
 
-pub times_columns-matrix-requires : goal.times_columns-matrix-requires
-times_columns-matrix-requires c =
-    (c.read_stretch-stretch.ensures.letters.permutation, orthogonal_bounded c.loop-n.exponent 30 (entry c.loop-n.matrix) (read_orthogonal _ _ _ _ c.loop-n.invariant) (let u = c.loop-n.invariant.small in omega arith))
+pub times_columns-product-requires : goal.times_columns-product-requires
+times_columns-product-requires c =
+    (c.read_stretch-stretch.ensures.letters.permutation, orthogonal_bounded c.loop-n.product.exponent 30 (entry c.loop-n.product.matrix) (read_orthogonal _ _ _ _ c.loop-n.invariant) (let u = c.loop-n.invariant.small in omega arith))
 
 pub returns-then-letters-stretch : goal.returns-then-letters-stretch
 returns-then-letters-stretch c =
-    rw c.times_columns-matrix.ensures (read_all _ _ _ _ ((read_stretch _ _ _ _ c.loop-n.invariant c.read_stretch-stretch.result c.read_stretch-stretch.ensures)) c.if-letters-stretch.true)
+    rw c.times_columns-product.ensures (read_all _ _ _ _ ((read_stretch _ _ _ _ c.loop-n.invariant c.read_stretch-stretch.result c.read_stretch-stretch.ensures)) c.if-letters-stretch.true)
 
 pub read_letter-requires : goal.read_letter-requires
 read_letter-requires c =

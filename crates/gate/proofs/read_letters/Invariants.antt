@@ -5,7 +5,7 @@ use Rattle.gate.specs.Laws.Letters.{ReadTo}
 use Rattle.gate.proofs.read_letters.Given as goal
 
 abbrev pub invariant-loop-n : goal.invariant-loop-n
-invariant-loop-n l = ReadTo l.letters l.exponent l.matrix l.n
+invariant-loop-n l = ReadTo l.letters l.product.exponent l.product.matrix l.n
 
 abbrev pub decreases-loop-n : goal.decreases-loop-n
 decreases-loop-n l = length l.letters - l.n

@@ -7,7 +7,7 @@ use Rattle.std.proofs.Math.ListN.{length, get_or, drop}
 use Rattle.std.proofs.Math.Seq.{drop-length}
 use Rattle.matrix.specs.Matrix.{δ, entry, listed}
 use Rattle.matrix.specs.Operator.{operator, Orthogonal}
-use Rattle.matrix.specs.declared.Least.{Least}
+use Rattle.matrix.specs.declared.Scaled.{Scaled}
 use Rattle.matrix.specs.Array.{least, least_form}
 use Rattle.matrix.specs.Laws.Array.{operator_of}
 use Rattle.file.specs.File.{largest_exponent}
@@ -36,7 +36,7 @@ read_none bs m e = record { inside = omega arith; w = []; reads = refl; exponent
 
 module _ (bs : List ℕ) (k : ℕ) (m : List ℤ) (n : ℕ) (s : ReadTo bs k m n) where
   pub read_orthogonal : Orthogonal (operator k (entry m))
-  read_orthogonal = subst (λ (l : Least). Orthogonal (operator_of l)) (λ i. record { exponent = sym s.exponent i; matrix = sym s.matrix i }) (least_of_orthogonal s.w)
+  read_orthogonal = subst (λ (l : Scaled). Orthogonal (operator_of l)) (λ i. record { exponent = sym s.exponent i; matrix = sym s.matrix i }) (least_of_orthogonal s.w)
 
   -- all letters are read
   pub read_all : length bs ≤ n → ReadAs (read_from [] bs) (Ok (least k m))
@@ -64,8 +64,8 @@ module _ (bs : List ℕ) (k : ℕ) (m : List ℤ) (n : ℕ) (s : ReadTo bs k m n
       inside = z.letters.inside;
       w = v;
       reads = s.reads ∙ z.letters.reads s.w k m s.small held_here;
-      exponent = sym (ap (λ (f : Least). f.exponent) held_then);
-      matrix = sym (ap (λ (f : Least). f.matrix) held_then);
+      exponent = sym (ap (λ (f : Scaled). f.exponent) held_then);
+      matrix = sym (ap (λ (f : Scaled). f.matrix) held_then);
       small = s.small;
     }
 
@@ -77,19 +77,19 @@ module _ (bs : List ℕ) (k : ℕ) (m : List ℤ) (n : ℕ) (s : ReadTo bs k m n
   letter_here : Option Gate
   letter_here = gate_of (get_or bs n 0)
 
-  same : {r : Result Least ℕ} → r ≡ read_byte k m letter_here → r ≡ read_byte (least_of s.w).exponent (least_of s.w).matrix letter_here
+  same : {r : Result Scaled ℕ} → r ≡ read_byte k m letter_here → r ≡ read_byte (least_of s.w).exponent (least_of s.w).matrix letter_here
   same e = e ∙ ap₂ (λ a b. read_byte a b letter_here) s.exponent s.matrix
 
   here : read_from [] bs ≡ read_letter s.w rest letter_here
   unfolding read_from rest letter_here
   here = s.reads ∙ ap (read_from s.w) (drop-cons bs n 0 h ∙ ap (λ x. get_or bs n 0 ∷ drop x bs) (sym (add-one n)))
 
-  pub read_more : (r : Least) → Ok r ≡ read_byte k m (gate_of (get_or bs n 0)) → ReadTo bs r.exponent r.matrix (n + 1)
+  pub read_more : (r : Scaled) → Ok r ≡ read_byte k m (gate_of (get_or bs n 0)) → ReadTo bs r.exponent r.matrix (n + 1)
   unfolding rest letter_here
   read_more r e =
       let o = onward s.w rest letter_here r (same e) in
-      let x = ap (λ (f : Least). f.exponent) o.product in
-      record { inside = omega arith; w = s.w ++ o.gate ∷ []; reads = here ∙ o.reads; exponent = x; matrix = ap (λ (f : Least). f.matrix) o.product; small = rw x o.small }
+      let x = ap (λ (f : Scaled). f.exponent) o.product in
+      record { inside = omega arith; w = s.w ++ o.gate ∷ []; reads = here ∙ o.reads; exponent = x; matrix = ap (λ (f : Scaled). f.matrix) o.product; small = rw x o.small }
 
   pub read_over : (e : ℕ) → Err e ≡ read_byte k m (gate_of (get_or bs n 0)) → ReadAs (read_from [] bs) (Err e)
   unfolding letter_here

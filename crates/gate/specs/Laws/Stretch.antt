@@ -8,7 +8,7 @@ use Rattle.matrix.specs.Matrix.{entry, listed, product}
 use Rattle.matrix.specs.Operator.{Operator, operator, times_operator, SameOperator, Orthogonal}
 use Rattle.std.proofs.lemmas.Option.{none-some, same_Some}
 use Rattle.refusal.specs.Laws.Refusal.{ok_err, same_err, same_ok}
-use Rattle.matrix.specs.declared.Least.{Least}
+use Rattle.matrix.specs.declared.Scaled.{Scaled}
 use Rattle.matrix.specs.Array.{least_form}
 use Rattle.matrix.specs.Laws.Matrix.{same_refl, product_cong, product_assoc, product_id_r}
 use Rattle.matrix.specs.Laws.Operator.{same_operator_refl, same_operator_sym, same_operator_trans, same_operator_of, times_same, times_orthogonal, same_orthogonal}
@@ -88,7 +88,7 @@ module _ (w : List Gate) (k : ℕ) (m : List ℤ) (bs : List ℕ) (p : are_permu
       ∙ ap (λ (A : Operator). least_form (l.exponent + A.exponent) (listed (product 6 (entry l.matrix) A.matrix))) (clifford_image g c)
       ∙ ap (λ x. least_form x (listed (product 6 (entry l.matrix) D))) (add-zero l.exponent)
       ∙ least_right D (subst Orthogonal (clifford_image g c) (image_orthogonal g)) l.exponent (entry l.matrix) (least_of_reduced w)
-      ∙ ap (λ (x : Least). record { exponent = x.exponent; matrix = listed (product 6 (entry x.matrix) D) }) e
+      ∙ ap (λ (x : Scaled). record { exponent = x.exponent; matrix = listed (product 6 (entry x.matrix) D) }) e
       ∙ ap (λ x. record { exponent = k; matrix = x })
       (listed_cong (product 6 (entry (times_columns m bs)) D) (product 6 (entry m) (columns_matrix (composed bs (columns g))))
       (λ i j hi hj.
@@ -177,7 +177,7 @@ no_letter b e n = go (gate_of b) refl e
 -- ---- one letter
 
 module _ (w : List Gate) (rest : List Gate → Reading) where
-  pub record Onward (l : Option Gate) (r : Least) : Type 0 where
+  pub record Onward (l : Option Gate) (r : Scaled) : Type 0 where
     pub gate : Gate
     pub reads : read_letter w rest l ≡ rest (w ++ gate ∷ [])
     pub product : r ≡ least_of (w ++ gate ∷ [])
@@ -185,14 +185,14 @@ module _ (w : List Gate) (rest : List Gate → Reading) where
 
   -- the two definitions make one test
   one_test : (g : Gate) (t : Bool) → ltb largest_exponent (multiplied (least_of w).exponent (least_of w).matrix g).exponent ≡ t → ltb largest_exponent (least_of (w ++ g ∷ [])).exponent ≡ t
-  one_test g t e = ap (λ (f : Least). ltb largest_exponent f.exponent) (sym (multiplied_of w g)) ∙ e
+  one_test g t e = ap (λ (f : Scaled). ltb largest_exponent f.exponent) (sym (multiplied_of w g)) ∙ e
 
-  pub onward : (l : Option Gate) (r : Least) → Ok r ≡ read_byte (least_of w).exponent (least_of w).matrix l → Onward l r
+  pub onward : (l : Option Gate) (r : Scaled) → Ok r ≡ read_byte (least_of w).exponent (least_of w).matrix l → Onward l r
   onward None r e = absurd (ok_err e)
   onward (Some g) r e = go (ltb largest_exponent (multiplied (least_of w).exponent (least_of w).matrix g).exponent) refl e
     where
       go : (t : Bool) → ltb largest_exponent (multiplied (least_of w).exponent (least_of w).matrix g).exponent ≡ t
-          → ◌≡◌ {A = Result Least ℕ} (Ok r) (cond t (Err 9) (Ok (multiplied (least_of w).exponent (least_of w).matrix g)))
+          → ◌≡◌ {A = Result Scaled ℕ} (Ok r) (cond t (Err 9) (Ok (multiplied (least_of w).exponent (least_of w).matrix g)))
           → Onward (Some g) r
       go true t e = absurd (ok_err e)
       go false t e = record {
@@ -207,7 +207,7 @@ module _ (w : List Gate) (rest : List Gate → Reading) where
   stopped (Some g) n e = go (ltb largest_exponent (multiplied (least_of w).exponent (least_of w).matrix g).exponent) refl e
     where
       go : (t : Bool) → ltb largest_exponent (multiplied (least_of w).exponent (least_of w).matrix g).exponent ≡ t
-          → ◌≡◌ {A = Result Least ℕ} (Err n) (cond t (Err 9) (Ok (multiplied (least_of w).exponent (least_of w).matrix g)))
+          → ◌≡◌ {A = Result Scaled ℕ} (Err n) (cond t (Err 9) (Ok (multiplied (least_of w).exponent (least_of w).matrix g)))
           → read_letter w rest (Some g) ≡ refusal n
       go true t e = rw (one_test g true t) (ap refusal (sym (same_err e)))
       go false t e = absurd (ok_err (sym e))

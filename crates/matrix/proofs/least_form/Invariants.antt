@@ -4,8 +4,8 @@ use lib.ListN.{length}
 use Rattle.matrix.specs.Array.{least_form}
 use Rattle.matrix.proofs.least_form.Given as goal
 
-abbrev pub invariant-loop-exponent : goal.invariant-loop-exponent
-invariant-loop-exponent l = (length l.m ≡ 36) × (least_form l.k l.initial.m ≡ least_form l.exponent l.m)
+abbrev pub invariant-loop-operator : goal.invariant-loop-operator
+invariant-loop-operator l = (length l.operator.matrix ≡ 36) × (least_form l.initial.operator.exponent l.initial.operator.matrix ≡ least_form l.operator.exponent l.operator.matrix)
 
-abbrev pub decreases-loop-exponent : goal.decreases-loop-exponent
-decreases-loop-exponent l = l.exponent
+abbrev pub decreases-loop-operator : goal.decreases-loop-operator
+decreases-loop-operator l = l.operator.exponent

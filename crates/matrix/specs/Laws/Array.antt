@@ -13,7 +13,7 @@ use Rattle.matrix.specs.Integer.{parity, half, equals}
 use Rattle.matrix.specs.Matrix.{Matrix, Same, δ, replaced, combined, row_product, entry, listed}
 use Rattle.matrix.specs.Determinant.{det}
 use Rattle.matrix.specs.Operator.{Operator, operator, SameOperator, Orthogonal, LeastExponent, AllEven, Reduced}
-use Rattle.matrix.specs.declared.Least.{Least}
+use Rattle.matrix.specs.declared.Scaled.{Scaled}
 use Rattle.matrix.specs.Array.{Bounded, everywhere, orthogonal_at, is_orthogonal, is_within, row_mask, row_weight, odd_at, before_odd, halved, half_sums, choose, least, least_form}
 use Rattle.matrix.specs.Laws.Integer.{*ℤ-unit-r, equals_eq, equals_yes, square_size, nat_abs_add_le, nat_abs_minus_le}
 use Rattle.matrix.specs.Laws.Parity.{half_even, half_sum, half_minus, even_parity, parity_even, parity_lt, parity_cases, nat_abs_half}
@@ -275,7 +275,7 @@ least_small zero m h = refl
 least_small (suc zero) m h = refl
 least_small (suc (suc k)) m h = absurd (omega arith)
 
-abbrev pub operator_of : Least → Operator
+abbrev pub operator_of : Scaled → Operator
 operator_of l = operator l.exponent (entry l.matrix)
 
 -- an array that holds the entries stands for the same matrix
@@ -283,7 +283,7 @@ pub listed_same : (A : Operator) → SameOperator A (operator A.exponent (entry 
 listed_same A = same_operator_of A (operator A.exponent (entry (listed A.matrix))) refl (λ i j hi hj. sym (entry_listed A.matrix i j hi hj))
 
 -- the least form of every pair stands for the same matrix and cannot be halved; of an array it is one, and it is bounded as that was
-pub record LeastForm (k : ℕ) (m : List ℤ) (l : Least) : Type 0 where
+pub record LeastForm (k : ℕ) (m : List ℤ) (l : Scaled) : Type 0 where
   pub same : SameOperator (operator k (entry m)) (operator_of l)
   pub reduced : Reduced (operator_of l)
   pub long : length m ≡ 36 → length l.matrix ≡ 36
@@ -305,7 +305,7 @@ least_form_lem zero m = itself 0 m (λ e. omega arith)
 least_form_lem (suc zero) m = itself 1 m (λ e. omega arith)
 least_form_lem (suc (suc k)) m = go (eqb (before_odd (entry m)) 36) refl (least_form_lem k (lowered m))
   where
-    here : Least
+    here : Scaled
     here = least (suc (suc k)) m
 
     go : (t : Bool) → eqb (before_odd (entry m)) 36 ≡ t → LeastForm k (lowered m) (least_form k (lowered m)) → LeastForm (suc (suc k)) m (choose t (least_form k (lowered m)) here)

@@ -3,7 +3,7 @@ use Rattle.std.specs.Prelude.{◌≡◌, ◌⊎◌, List, ℕ, ◌+◌, ◌%◌,
 use Rattle.std.proofs.Common.{ap, ap₂, ◌∙◌, inl, inr, ⊎_elim, arith}
 use Rattle.matrix.specs.Matrix.{entry, scaled}
 use Rattle.matrix.specs.Operator.{operator, SameUpToSign, Orthogonal, Proper}
-use Rattle.matrix.specs.declared.Least.{Least}
+use Rattle.matrix.specs.declared.Scaled.{Scaled}
 use Rattle.matrix.specs.Array.{least_form}
 use Rattle.matrix.specs.Laws.Operator.{same_operator_trans}
 use Rattle.matrix.specs.Laws.Array.{length_listed, same_least_form}
@@ -51,5 +51,5 @@ module _ (k l : ℕ) (m n : List ℤ) (hm : length m ≡ 36) (hn : length n ≡ 
   pub same_letters : Proper (operator l (entry n)) → SameUpToSign (operator k (entry m)) (operator l (entry n)) → list_of k m ≡ list_of l n
   same_letters q h = ⊎_elim (λ e. ap listed e) (λ e. ap listed e ∙ list_negative l n p q) (least_up_to_sign h)
     where
-      listed : Least → List Gate
+      listed : Scaled → List Gate
       listed f = gate_list (generators f.exponent f.matrix) (column_bytes (entry (remainder f.exponent f.matrix)))

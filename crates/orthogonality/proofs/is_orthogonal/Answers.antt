@@ -21,7 +21,7 @@ test_at norm m n = orthogonal_at norm (entry m) (n / 6) (n % 6)
 pub returns : goal.returns
 unfolding is_orthogonal
 returns c =
-    let m = c.args.m in
+    let m = c.args.operator.now.matrix in
     let p = c.power_of_two-norm in
     all_from_yields_List (test_at p.result m) _ _ _ c.all.ensures.ran (YieldsList-from_range 0 36 36 refl refl) (λ x b q k. search (rules, tests, kept {z = p.result} p.type_inv))
     ∙ every_in (test_at p.result m) 0 36

@@ -30,13 +30,13 @@ loop-n-init c = (refl, refl, refl)
 
 pub cut_once-step-requires : goal.cut_once-step-requires
 cut_once-step-requires c =
-    let left = c.args.k - (c.loop-n.n + 1) in
-    let (o, r) = under_way c.loop-n.n c.args.k (suc left) c.args.m (omega arith) c.requires.1 c.requires.2 in
+    let left = c.args.operator.exponent - (c.loop-n.n + 1) in
+    let (o, r) = under_way c.loop-n.n c.args.operator.exponent (suc left) c.args.operator.matrix (omega arith) c.requires.1 c.requires.2 in
     rw c.loop-n.invariant.0 (record { rest = left; small = omega arith; orthogonal = o; reduced = r })
 
 pub overflow_add-loose : goal.overflow_add-loose
 overflow_add-loose c =
-    let h = loose_at_most c.loop-n.n c.args.m in
+    let h = loose_at_most c.loop-n.n c.args.operator.matrix in
     let t = c.cut_once-step.result.loose in
     let e = byte_is t in
     let one = at_most_one t in
@@ -45,7 +45,7 @@ overflow_add-loose c =
 pub loop-n-preserved : goal.loop-n-preserved
 loop-n-preserved c =
     let n = c.loop-n.n in
-    let m = c.args.m in
+    let m = c.args.operator.matrix in
     let cut = c.cut_once-step.ensures in
     let q = c.loop-n.invariant.0 in (
       rw add-one (cut.matrix ∙ ap step q ∙ sym (remainder_next n m)),

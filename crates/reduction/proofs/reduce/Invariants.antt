@@ -5,4 +5,4 @@ use Rattle.reduction.specs.Result.{numbers_of}
 use Rattle.reduction.proofs.reduce.Given as goal
 
 abbrev pub invariant-loop-n : goal.invariant-loop-n
-invariant-loop-n l = (l.matrix ≡ remainder l.n l.initial.matrix) × (l.numbers ≡ numbers_of l.n (generators l.n l.initial.matrix)) × (l.loose ≡ loose_cuts l.n l.initial.matrix)
+invariant-loop-n l = (l.matrix ≡ remainder l.n l.fn.operator.matrix) × (l.numbers ≡ numbers_of l.n (generators l.n l.fn.operator.matrix)) × (l.loose ≡ loose_cuts l.n l.fn.operator.matrix)

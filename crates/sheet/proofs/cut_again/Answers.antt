@@ -11,7 +11,7 @@ use lib.Seq.{take_at}
 use Rattle.matrix.specs.List.{same_list}
 use Rattle.matrix.specs.Matrix.{entry}
 use Rattle.matrix.specs.Operator.{operator, Orthogonal}
-use Rattle.matrix.specs.declared.Least.{Least}
+use Rattle.matrix.specs.declared.Scaled.{Scaled}
 use Rattle.matrix.specs.Array.{least_form}
 use Rattle.matrix.specs.Laws.Array.{least_form_lem}
 use Rattle.reduction.specs.declared.Cut.{Cut}
@@ -38,7 +38,7 @@ module _ (s : List ℕ) (k : ℕ) (m : List ℤ) (o : Orthogonal (operator k (en
     another : not t ≡ true → CutAgain s k m (Err 13)
     another n = rw (test ∙ not-true t n) (refl, omega arith)
 
-    the_same : not t ≡ false → {l : Least} → l ≡ least_form k m → CutAgain s k m (Ok l)
+    the_same : not t ≡ false → {l : Scaled} → l ≡ least_form k m → CutAgain s k m (Ok l)
     the_same n z = rw (test ∙ not-false t n) (refl, z)
 
 pub is_sheet-requires : goal.is_sheet-requires

@@ -15,7 +15,7 @@ use Rattle.std.specs.Prelude.{Result, Err}
 use Rattle.std.proofs.lemmas.Result.{err_from_is_err_and}
 use Rattle.refusal.specs.Refusal.{RefusedOr}
 use Rattle.refusal.specs.Laws.Refusal.{number_positive}
-use Rattle.matrix.specs.declared.Least.{Least}
+use Rattle.matrix.specs.declared.Scaled.{Scaled}
 use Rattle.sheet_bytes.specs.Bytes.{shortest, sheet_numbers, sheet_columns, sheet_sign, sheet_operator}
 use Rattle.sheet_bytes.specs.Sheet.{bytes_refusal, sheet_refusal, sheet_least}
 use Rattle.sheet.specs.Promise.{CutAgain, SheetRead}
@@ -37,7 +37,7 @@ module _ (s : List ℕ) (f : InForm s) (bs : List ℕ) (b : bs ≡ signed (sheet
   orthogonal : Orthogonal (operator (length s - shortest) (entry m))
   orthogonal = subst (λ k. Orthogonal (operator k (entry m))) (sheet_exponent s f) (rw matrix_is (sheet_orthogonal s f))
 
-  taken_in : (r : Result Least ℕ) → CutAgain s (length s - shortest) m r → SheetRead s r
+  taken_in : (r : Result Scaled ℕ) → CutAgain s (length s - shortest) m r → SheetRead s r
   unfolding sheet_refusal sheet_least
   taken_in r a =
       let a' : CutAgain s (sheet_operator s).exponent (listed (sheet_operator s).matrix) r = rw (sheet_exponent s f) (rw matrix_is at a) in

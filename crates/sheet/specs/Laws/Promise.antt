@@ -7,7 +7,7 @@ use borrow.Author.Tests.{eq-eqb, ne_eqb, lt-ltb, le-ltb}
 use Rattle.matrix.specs.Operator.{SameOperator}
 use Rattle.file.specs.File.{long_length, kind_for, length_for, file_of, written, Fits}
 use Rattle.file.specs.Laws.File.{length_most, exponent_back, orthogonal_fits}
-use Rattle.matrix.specs.declared.Least.{Least}
+use Rattle.matrix.specs.declared.Scaled.{Scaled}
 use Rattle.sheet_bytes.specs.Bytes.{sheet_operator}
 use Rattle.sheet_bytes.specs.Sheet.{sheet_refusal, sheet_least}
 use Rattle.sheet.specs.Promise.{SheetRead, operator_answer, operator_buffer, OperatorPromise}
@@ -31,26 +31,26 @@ module _ (s old : List ℕ) where
       let t = ne_eqb (sheet_refusal s) 0 (λ z. let h = c.1 in omega arith) in
       promised (rw t (ap Err c.0)) (rw t)
 
-  module _ (r : Least) (c : SheetRead s (Ok r)) where
+  module _ (r : Scaled) (c : SheetRead s (Ok r)) where
     pub no_room : length old < length_for r.exponent → OperatorPromise s old old (Err 6)
     unfolding operator_answer operator_buffer
     no_room h =
         let t = eq-eqb (sheet_refusal s) 0 c.0 in
-        let l = lt-ltb (length old) (length_for (sheet_least s).exponent) (subst (λ (f : Least). length old < length_for f.exponent) c.1 h) in
+        let l = lt-ltb (length old) (length_for (sheet_least s).exponent) (subst (λ (f : Scaled). length old < length_for f.exponent) c.1 h) in
         promised (rw (t, l)) (rw (t, l))
 
     pub done : (new : List ℕ) → length_for r.exponent ≤ length old → new ≡ written old (file_of r.exponent r.matrix) → OperatorPromise s old new (Ok r.exponent)
     unfolding operator_answer operator_buffer
     done new h n =
         let t = eq-eqb (sheet_refusal s) 0 c.0 in
-        let l = le-ltb (length old) (length_for (sheet_least s).exponent) (subst (λ (f : Least). length_for f.exponent ≤ length old) c.1 h) in
-        promised (rw (t, l) (ap (λ (f : Least). Ok f.exponent) c.1)) (rw (t, l) (n ∙ ap (λ (f : Least). written old (file_of f.exponent f.matrix)) c.1))
+        let l = le-ltb (length old) (length_for (sheet_least s).exponent) (subst (λ (f : Scaled). length_for f.exponent ≤ length old) c.1 h) in
+        promised (rw (t, l) (ap (λ (f : Scaled). Ok f.exponent) c.1)) (rw (t, l) (n ∙ ap (λ (f : Scaled). written old (file_of f.exponent f.matrix)) c.1))
 
     -- the entries fit the file
     pub fits : Fits (kind_for r.exponent) r.matrix
     fits =
         let z = c.0 in
-        subst (λ (f : Least). Fits (kind_for f.exponent) f.matrix) (sym c.1)
+        subst (λ (f : Scaled). Fits (kind_for f.exponent) f.matrix) (sym c.1)
         (orthogonal_fits (sheet_least s).exponent (sheet_least s).matrix (sheet_small s (accepted s z)) (least_orthogonal_sheet s (accepted s z)))
 
 -- ---- the answer, where the buffer has room for every file
