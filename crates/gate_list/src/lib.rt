@@ -307,7 +307,7 @@ pub struct List {
 // Writes the gate list of a normal form to the front of `out`. Two stretches with sign 1 make a list of sign 0.
 // Wrong, and refused: the sign 0 for every list; the sign of the last stretch alone; how many stretches have the sign 1, and not whether that is odd.
 pub fn write_list(cut: &Cut, out: &mut [u8]) -> List
-    requires { (cut.now.count ≤ 60) × Numbers (take cut.now.count cut.now.numbers) × (are_column_bytes cut.now.columns ≡ true) × (256 * (cut.now.count + 1) ≤ length out.old) }
+    requires { Numbers (take cut.now.count cut.now.numbers) × (are_column_bytes cut.now.columns ≡ true) × (256 * (cut.now.count + 1) ≤ length out.old) }
     ensures { Written (gate_list (take cut.now.count cut.now.numbers) cut.now.columns) 0 out.old out.new result.letters × (result.sign ≡ list_sign (take cut.now.count cut.now.numbers) cut.now.columns) }
 {
     let codes = stretch_codes();

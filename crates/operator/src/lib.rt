@@ -13,7 +13,7 @@ use refusal::Refusal;
 
 // The sheet of a normal form, at the front of `out`; the bytes past it stay.
 fn write_sheet(cut: &Cut, out: &mut [u8])
-    requires { (cut.now.count ≤ 60) × (cut.now.count + shortest ≤ length out.old) }
+    requires { cut.now.count + shortest ≤ length out.old }
     ensures { out.new ≡ written out.old (sheet_bytes (take cut.now.count cut.now.numbers) cut.now.columns) }
 {
     let end = cut.count as usize + sheet_bytes::SHORTEST;

@@ -26,7 +26,7 @@ fn sign_byte(columns: [u8; 6]) -> u8
 
 // Byte n of the sheet of a normal form.
 pub fn sheet_byte(cut: &Cut, n: usize) -> u8
-    requires { (cut.now.count ≤ 60) × (n < cut.now.count + shortest) }
+    requires { n < cut.now.count + shortest }
     ensures { result ≡ get_or (sheet_bytes (take cut.now.count cut.now.numbers) cut.now.columns) n 0 }
 {
     if n == 0 {

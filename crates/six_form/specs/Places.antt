@@ -4,10 +4,10 @@ use Rattle.matrix.specs.Range.{every}
 use Rattle.matrix.specs.Integer.{equals}
 use Rattle.matrix.specs.Matrix.{entry, listed}
 use Rattle.matrix.specs.Operator.{operator, SameUpToSign}
+use Rattle.matrix.specs.declared.Scaled.{Scaled}
 use Rattle.unitary.specs.Unitary.{Quotient, matrix_of}
 use Rattle.unitary.specs.Form.{six_form, form_of}
 use Rattle.six_form.specs.declared.Parts.{Parts}
-use Rattle.six_form.specs.declared.Form.{Form}
 
 -- the lower of the two places of basis matrix c
 abbrev pub place_of : ℕ → ℕ
@@ -23,7 +23,7 @@ pub record PartsOf (n : List ℤ) (r : Parts) : Type 0 where
   pub im : r.im ≡ listed (λ i j. (six_form (matrix_of n) i j).im)
 
 -- the form up to sign, of an exponent of at most 2 k + 2
-pub record FormAs (U : Quotient) (r : Form) : Type 0 where
+pub record FormAs (U : Quotient) (r : Scaled) : Type 0 where
   pub small : r.exponent ≤ 2 * U.exponent + 2
   pub long : length r.matrix ≡ 36
   pub same : SameUpToSign (operator r.exponent (entry r.matrix)) (form_of U)

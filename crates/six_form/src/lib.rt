@@ -10,6 +10,7 @@ ghost use Rattle.unitary_file.specs.Unitary.{Narrow};
 ghost use Rattle.six_form.specs.Places.{place_of, is_zero, PartsOf, FormAs};
 
 use gaussian::Gaussian;
+use matrix::Scaled;
 
 // The row and the column of each place above the diagonal.
 // Wrong, and refused: another row or column for a place; the columns of two places exchanged.
@@ -146,17 +147,10 @@ fn is_zero(m: &[i64; 36]) -> bool
     m.iter().all(|x| *x == 0)
 }
 
-// An operator: its exponent and its matrix, row by row.
-#[derive(Clone, Copy, Debug, PartialEq, Eq)]
-pub struct Form {
-    pub exponent: u8,
-    pub matrix: [i64; 36],
-}
-
 // The form, up to sign. All entries have one phase: they are real, or imaginary, or all of them are multiples of 1 + i or of 1 - i, and then the real
 // part is half of what a power of ω makes them.
 // Wrong, and refused: the real part of a form that is imaginary; one exponent for all phases.
-pub fn form_of(k: u8, n: &[i64; 32]) -> Form
+pub fn form_of(k: u8, n: &[i64; 32]) -> Scaled
     requires { (k ≤ 29) × Narrow n.now × Unitary (quotient k (matrix_of n.now)) }
     ensures { FormAs (quotient k (matrix_of n.now)) result }
 {
@@ -164,18 +158,18 @@ pub fn form_of(k: u8, n: &[i64; 32]) -> Form
     let re = parts.re;
     let im = parts.im;
     if is_zero(&re) {
-        return Form {
+        return Scaled {
             exponent: 2 * k + 2,
             matrix: im,
         };
     }
     if is_zero(&im) {
-        return Form {
+        return Scaled {
             exponent: 2 * k + 2,
             matrix: re,
         };
     }
-    Form {
+    Scaled {
         exponent: 2 * k + 1,
         matrix: re,
     }

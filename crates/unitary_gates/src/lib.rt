@@ -24,7 +24,7 @@ pub fn unitary_to_gates(bytes: &[u8], out: &mut [u8]) -> Result<Synthesis, Refus
 {
     let read = unitary_file::read_unitary(bytes)?;
     let form = six_form::form_of(read.exponent, &read.entries);
-    let cut = acceptance::cut_orthogonal(form.exponent, form.matrix);
+    let cut = acceptance::cut_orthogonal(&form);
     if out.len() < 256 * (cut.count as usize + 1) {
         return Err(Refusal::Buffer);
     }

@@ -1,13 +1,13 @@
 -- Each way out is a case of the definitions; the entries fit the file since the product is orthogonal with an exponent of at most 60.
 use Rattle.std.specs.Prelude.{Result, ℕ, Ok, Err}
-use mathlib.Core.Path.{◌≡◌, refl, sym, ap, subst, ◌∙◌}
+use mathlib.Core.Path.{◌≡◌, refl, sym, ap, subst}
 use mathlib.Core.List.{List, []}
 use Prim.Native.Nat.{ℕ, ◌≤◌, ◌<◌}
 use native.Mathlib.Omega.{arith}
 use Rattle.std.proofs.lemmas.Result.{err_from_is_err_and}
 use lib.ListN.{length}
 use borrow.Author.Tests.{lt-ltb, le-ltb}
-use Rattle.file.specs.File.{kind_for, length_for, file_of, written, Fits}
+use Rattle.file.specs.File.{kind_for, Fits}
 use Rattle.file.specs.Writing.{file_answer, file_buffer, FileWritten}
 use Rattle.file.specs.Laws.File.{orthogonal_fits}
 use Rattle.refusal.specs.Laws.Refusal.{ok_err, same_ok, same_err}

@@ -14,15 +14,15 @@ loop-number-init c = listing_none _ _ _
 pub loop-number-preserved : goal.loop-number-preserved
 loop-number-preserved c =
     let w = c.write_stretch-word in
-    let t = counted c.args.cut.now.count c.args.cut.now.numbers (omega (arith, c.requires.0)) in
-    let (low, high) = c.requires.1 c.loop-number.number-index c.loop-number-test.true in
-    listing_more _ _ _ _ _ _ _ _ c.loop-number.invariant (omega (arith, c.requires.3)) _ _ _ _ c.loop-number-test.true refl low high w.ensures.0 w.ensures.1
+    let t = counted c.args.cut.now.count c.args.cut.now.numbers (omega arith) in
+    let (low, high) = c.requires.0 c.loop-number.number-index c.loop-number-test.true in
+    listing_more _ _ _ _ _ _ _ _ c.loop-number.invariant (omega (arith, c.requires.2)) _ _ _ _ c.loop-number-test.true refl low high w.ensures.0 w.ensures.1
 
 pub returns : goal.returns
 returns c =
-    let t = counted c.args.cut.now.count c.args.cut.now.numbers (omega (arith, c.requires.0)) in
+    let t = counted c.args.cut.now.count c.args.cut.now.numbers (omega arith) in
     let last : c.compose-last.result ≡ composed (right_of c.loop-number.before) c.args.cut.now.columns = c.compose-last.ensures ∙ ap (λ x. composed x c.args.cut.now.columns) c.right_of.ensures in
     let w = c.write_clifford-word in (
-      listing_all _ _ _ _ _ _ _ _ c.loop-number.invariant (omega (arith, c.requires.3)) (omega arith) _ _ (written_as (ap clifford_word last) w.ensures.0),
-      listing_sign _ _ _ _ _ _ _ _ c.loop-number.invariant (omega (arith, c.requires.3)) (omega arith) _ (w.ensures.1 ∙ ap word_sign last),
+      listing_all _ _ _ _ _ _ _ _ c.loop-number.invariant (omega (arith, c.requires.2)) (omega arith) _ _ (written_as (ap clifford_word last) w.ensures.0),
+      listing_sign _ _ _ _ _ _ _ _ c.loop-number.invariant (omega (arith, c.requires.2)) (omega arith) _ (w.ensures.1 ∙ ap word_sign last),
     )

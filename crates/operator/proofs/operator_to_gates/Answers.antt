@@ -16,8 +16,7 @@ pub write_list-list-requires : goal.write_list-list-requires
 write_list-list-requires c =
     let b = c.args.bytes.now in
     let y = ready b _ c.in_ok-cut.ensures in
-    let h = y.small in
-    (omega arith, subst Numbers (sym y.numbers) (file_cutting b y.accepted).numbers, rw y.columns (columns_bytes b y.accepted), omega arith)
+    (subst Numbers (sym y.numbers) (file_cutting b y.accepted).numbers, rw y.columns (columns_bytes b y.accepted), omega arith)
 
 pub returns : goal.returns
 returns c = gates_done c.args.bytes.now c.args.out.now _ c.in_ok-cut.ensures _ _ _ c.if-out-cut.false c.write_list-list.ensures.0 c.write_list-list.ensures.1

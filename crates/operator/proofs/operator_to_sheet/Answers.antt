@@ -1,7 +1,7 @@
 -- Each way out is a case of the promise.
 use native.Mathlib.Omega.{arith}
 use Rattle.std.proofs.lemmas.Result.{err_from_is_err_and}
-use Rattle.operator.specs.Laws.Promise.{ready, sheet_refused_lem, sheet_no_room, sheet_done}
+use Rattle.operator.specs.Laws.Promise.{sheet_refused_lem, sheet_no_room, sheet_done}
 use Rattle.operator.proofs.operator_to_sheet.Goals as goal
 
 pub returns-in_err-cut : goal.returns-in_err-cut
@@ -11,10 +11,7 @@ pub returns-then-out-cut : goal.returns-then-out-cut
 returns-then-out-cut c = sheet_no_room c.args.bytes.now c.args.out.now _ c.in_ok-cut.ensures c.if-out-cut.true
 
 pub write_sheet-requires : goal.write_sheet-requires
-write_sheet-requires c =
-    let y = ready c.args.bytes.now _ c.in_ok-cut.ensures in
-    let h = y.small in
-    (omega arith, omega arith)
+write_sheet-requires c = omega arith
 
 pub returns : goal.returns
 returns c = sheet_done c.args.bytes.now c.args.out.now _ c.in_ok-cut.ensures _ c.if-out-cut.false c.write_sheet.ensures

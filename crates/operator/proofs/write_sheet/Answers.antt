@@ -22,4 +22,4 @@ whole count numbers columns out₀ out n h l m e u f =
 pub returns : goal.returns
 returns c =
     let e = c.loop-n.invariant.0 in
-    whole c.args.cut.now.count c.args.cut.now.numbers c.args.cut.now.columns c.args.out.now c.loop-n.out c.loop-n.n c.requires.0 (omega arith) (omega arith) (omega arith) (omega (arith, c.requires.1)) c.loop-n.invariant.1
+    whole c.args.cut.now.count c.args.cut.now.numbers c.args.cut.now.columns c.args.out.now c.loop-n.out c.loop-n.n (omega arith) (omega arith) (omega arith) (omega arith) (omega arith) c.loop-n.invariant.1

@@ -54,7 +54,6 @@ pub record Ready (b : List ℕ) (r : Cut) : Type 0 where
   pub accepted : file_refusal b ≡ 0
   pub count : r.count ≡ file_count b
   pub loose : r.loose ≡ file_loose b
-  pub small : r.count ≤ largest_exponent
   pub numbers : take r.count r.numbers ≡ file_numbers b
   pub columns : r.columns ≡ file_columns b
   pub bytes : sheet_bytes (take r.count r.numbers) r.columns ≡ file_sheet b
@@ -70,7 +69,6 @@ ready b r (z, c) =
       accepted = z;
       count = t;
       loose = c.loose;
-      small = rw t (count_small b z);
       numbers = n;
       columns = c.columns;
       bytes = ap₂ sheet_bytes n c.columns;

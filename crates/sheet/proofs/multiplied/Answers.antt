@@ -3,8 +3,8 @@ use Prim.Native.Nat.{ℕ, suc, ◌+◌, ◌≤◌, ◌<◌}
 use native.Mathlib.Omega.{arith}
 use mathlib.Core.List.{List}
 use lib.IntN.{ℤ}
-use lib.ListN.{length, get_or, take, drop}
-use lib.Seq.{length-take-le, get_or-take, drop-cons, drop-length}
+use lib.ListN.{length, get_or, drop}
+use lib.Seq.{drop-cons, drop-length}
 use Rattle.matrix.specs.Matrix.{Matrix, Same, δ, entry, listed, product}
 use Rattle.matrix.specs.Operator.{operator, times_operator, identity}
 use Rattle.matrix.specs.Laws.Matrix.{product_cong, product_assoc, product_id_l}
@@ -14,7 +14,6 @@ use Rattle.matrix.specs.Laws.Array.{entry_listed, listed_cong, orthogonal_bounde
 use Rattle.residue.specs.Generator.{generator}
 use Rattle.residue.specs.Laws.Generator.{generator_orthogonal}
 use Rattle.reduction.specs.Reduction.{normal_form}
-use Rattle.sheet.specs.Laws.Sheet.{numbers_sound}
 use Rattle.sheet.proofs.multiplied.Invariants.{Going}
 use Rattle.sheet.proofs.multiplied.Goals as goal
 
@@ -50,27 +49,23 @@ all gs C m r n h s e =
     ∙ listed_cong (product 6 (entry m) C) (normal_form gs C).matrix
     (λ i j hi hj. sym (s.whole i j hi hj ∙ ap (λ x. product 6 (entry m) (normal_form x C).matrix i j) (ap (λ x. drop x gs) h ∙ drop-length gs)))
 
-pub loop-n-init : goal.loop-n-init
-loop-n-init c = start _ _ _ c.identity-m.ensures
+pub loop-number-init : goal.loop-number-init
+loop-number-init c = start _ _ _ c.identity-m.ensures
 
 pub times_generator-next-requires : goal.times_generator-next-requires
 times_generator-next-requires c =
-    let b = numbers_sound c.args.bytes.now c.args.count c.requires.1 c.requires.2 c.loop-n.n (omega arith) in
-    (b.0, b.1, orthogonal_bounded c.loop-n.n 30 (entry c.loop-n.m) c.loop-n.invariant.orthogonal (omega (arith, c.requires.0)))
+    let n = c.loop-number.number-index in
+    let (low, high) = c.requires.1 n c.loop-number-test.true in
+    (low, high, orthogonal_bounded n 30 (entry c.loop-number.m) c.loop-number.invariant.orthogonal (omega arith))
 
-pub loop-n-preserved : goal.loop-n-preserved
-loop-n-preserved c =
-    let b = c.args.bytes.now in
-    let t = length-take-le c.args.count b c.requires.1 in
-    let g = get_or-take c.args.count b c.loop-n.n 0 (omega arith) in
-    let x = numbers_sound b c.args.count c.requires.1 c.requires.2 c.loop-n.n (omega arith) in
-    more (take c.args.count b) _ c.loop-n.m _ c.loop-n.n (omega arith) (rw g x.0) (rw g x.1) c.loop-n.invariant (rw g c.times_generator-next.ensures)
+pub loop-number-preserved : goal.loop-number-preserved
+loop-number-preserved c =
+    let n = c.loop-number.number-index in
+    let (low, high) = c.requires.1 n c.loop-number-test.true in
+    more c.args.numbers.now _ c.loop-number.m _ n (omega arith) low high c.loop-number.invariant c.times_generator-next.ensures
 
 pub times_columns-requires : goal.times_columns-requires
-times_columns-requires c =
-    (c.requires.3, orthogonal_bounded c.loop-n.n 30 (entry c.loop-n.m) c.loop-n.invariant.orthogonal (omega (arith, c.requires.0)))
+times_columns-requires c = (c.requires.2, orthogonal_bounded c.loop-number.number-index 30 (entry c.loop-number.m) c.loop-number.invariant.orthogonal (omega arith))
 
 pub returns : goal.returns
-returns c =
-    let t = length-take-le c.args.count c.args.bytes.now c.requires.1 in
-    all (take c.args.count c.args.bytes.now) _ c.loop-n.m _ c.loop-n.n (omega arith) c.loop-n.invariant c.times_columns.ensures
+returns c = all c.args.numbers.now _ c.loop-number.m _ c.loop-number.number-index (omega arith) c.loop-number.invariant c.times_columns.ensures

@@ -2,7 +2,7 @@
 use Prim.Native.Nat.{ℕ}
 use mathlib.Core.List.{List}
 use lib.IntN.{ℤ}
-use lib.ListN.{take, drop}
+use lib.ListN.{drop}
 use Rattle.matrix.specs.Matrix.{Matrix, Same, entry, product}
 use Rattle.matrix.specs.Operator.{operator, Orthogonal}
 use Rattle.clifford.specs.Columns.{columns_matrix}
@@ -14,5 +14,5 @@ pub record Going (gs : List ℕ) (C : Matrix) (m : List ℤ) (n : ℕ) : Type 0 
   pub orthogonal : Orthogonal (operator n (entry m))
   pub whole : Same 6 (normal_form gs C).matrix (product 6 (entry m) (normal_form (drop n gs) C).matrix)
 
-abbrev pub invariant-loop-n : goal.invariant-loop-n
-invariant-loop-n l = Going (take l.count l.bytes) (columns_matrix l.columns) l.m l.n
+abbrev pub invariant-loop-number : goal.invariant-loop-number
+invariant-loop-number l = Going l.numbers (columns_matrix l.columns) l.m l.number-index

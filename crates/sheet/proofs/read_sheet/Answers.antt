@@ -2,11 +2,11 @@
 use mathlib.Core.Path.{◌≡◌, sym, ap, ◌∙◌, subst}
 use mathlib.Core.List.{List}
 use mathlib.Core.Logic.{◌≢◌}
-use Prim.Native.Nat.{ℕ, ◌-◌, ◌≤◌}
+use Prim.Native.Nat.{ℕ, ◌+◌, ◌-◌, ◌≤◌}
 use native.Mathlib.Omega.{arith}
-use borrow.Author.Rules.{part_to_end}
+use Rattle.std.proofs.Common.{length-take-le}
 use lib.IntN.{ℤ}
-use lib.ListN.{length, take}
+use lib.ListN.{length, take, drop}
 use Rattle.matrix.specs.Matrix.{entry, listed}
 use Rattle.matrix.specs.Operator.{operator, Orthogonal}
 use Rattle.clifford.specs.Columns.{columns_matrix, signed}
@@ -19,7 +19,7 @@ use Rattle.matrix.specs.declared.Scaled.{Scaled}
 use Rattle.sheet_bytes.specs.Bytes.{shortest, sheet_numbers, sheet_columns, sheet_sign, sheet_operator}
 use Rattle.sheet_bytes.specs.Sheet.{bytes_refusal, sheet_refusal, sheet_least}
 use Rattle.sheet.specs.Promise.{CutAgain, SheetRead}
-use Rattle.sheet.specs.Laws.Sheet.{InForm, in_form, in_form_refusal, out_of_form, numbers_room, sheet_exponent, signed_columns, sheet_matrix, sheet_orthogonal}
+use Rattle.sheet.specs.Laws.Sheet.{InForm, in_form, in_form_refusal, out_of_form, front_numbers, numbers_room, sheet_exponent, signed_columns, sheet_matrix, sheet_orthogonal}
 use Rattle.sheet.proofs.read_sheet.Goals as goal
 
 turned_away : (s : List ℕ) (n : ℕ) → n ≡ bytes_refusal s 0 → 1 ≤ n → SheetRead s (Err n)
@@ -43,21 +43,33 @@ module _ (s : List ℕ) (f : InForm s) (bs : List ℕ) (b : bs ≡ signed (sheet
       let a' : CutAgain s (sheet_operator s).exponent (listed (sheet_operator s).matrix) r = rw (sheet_exponent s f) (rw matrix_is at a) in
       subst (λ n. RefusedOr n (λ l. l ≡ sheet_least s) r) (sym (in_form_refusal s _ f)) a'
 
+-- the bytes behind the first, up to the columns
+between : (s : List ℕ) → take (1 + (length s - shortest) - 1) (drop 1 s) ≡ sheet_numbers s
+between s = let e : 1 + (length s - shortest) - 1 ≡ length s - shortest = omega arith in ap (λ n. take n (drop 1 s)) e
+
 pub returns-in_err-check_bytes : goal.returns-in_err-check_bytes
 returns-in_err-check_bytes c =
     let p = err_from_is_err_and c.from_residual.result c.from_residual.ensures.1 in
     rw (p.1, p.2) (turned_away _ _ c.in_err-check_bytes.ensures (number_positive _))
 
-pub multiplied-m-requires : goal.multiplied-m-requires
-multiplied-m-requires c =
-    let f = (let formed' : InForm c.args.bytes.now = in_form _ 0 (sym c.in_ok-check_bytes.ensures) in formed') in
+pub multiplied-matrix-requires : goal.multiplied-matrix-requires
+multiplied-matrix-requires c =
     let s = c.args.bytes.now in
-    (omega arith, rw (part_to_end s 1) (numbers_room s f), rw (part_to_end s 1) f.numbers, rw c.columns_from-columns.ensures (signed_columns s f))
+    let f : InForm s = in_form _ 0 (sym c.in_ok-check_bytes.ensures) in
+    rw (between s) (
+      let l = length-take-le (length s - shortest) (drop 1 s) (numbers_room s f) in omega arith,
+      front_numbers (drop 1 s) (length s - shortest) (numbers_room s f) f.numbers,
+      rw c.columns_from-columns.ensures (signed_columns s f),
+    )
 
 pub cut_again-requires : goal.cut_again-requires
 cut_again-requires c =
-    let f = (let formed' : InForm c.args.bytes.now = in_form _ 0 (sym c.in_ok-check_bytes.ensures) in formed') in
-    (omega arith, orthogonal _ f _ c.columns_from-columns.ensures _ ((let product' : c.multiplied-m.result ≡ listed (normal_form (sheet_numbers c.args.bytes.now) (columns_matrix c.columns_from-columns.result)).matrix = let s = c.args.bytes.now in c.multiplied-m.ensures ∙ ap (λ x. listed (normal_form (take (length s - shortest) x) (columns_matrix c.columns_from-columns.result)).matrix) (part_to_end s 1) in product')))
+    let s = c.args.bytes.now in
+    let f : InForm s = in_form _ 0 (sym c.in_ok-check_bytes.ensures) in
+    (omega arith, orthogonal s f _ c.columns_from-columns.ensures _ (rw (between s) at c.multiplied-matrix.ensures))
 
 pub returns : goal.returns
-returns c = taken_in _ ((let formed' : InForm c.args.bytes.now = in_form _ 0 (sym c.in_ok-check_bytes.ensures) in formed')) _ c.columns_from-columns.ensures _ ((let product' : c.multiplied-m.result ≡ listed (normal_form (sheet_numbers c.args.bytes.now) (columns_matrix c.columns_from-columns.result)).matrix = let s = c.args.bytes.now in c.multiplied-m.ensures ∙ ap (λ x. listed (normal_form (take (length s - shortest) x) (columns_matrix c.columns_from-columns.result)).matrix) (part_to_end s 1) in product')) _ c.cut_again.ensures
+returns c =
+    let s = c.args.bytes.now in
+    let f : InForm s = in_form _ 0 (sym c.in_ok-check_bytes.ensures) in
+    taken_in s f _ c.columns_from-columns.ensures _ (rw (between s) at c.multiplied-matrix.ensures) _ c.cut_again.ensures

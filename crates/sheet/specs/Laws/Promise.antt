@@ -1,11 +1,12 @@
 -- The ways out of the call.
-use Rattle.std.specs.Prelude.{◌≡◌, ◌≢◌, List, ℕ, ◌≤◌, ◌<◌, Result, Ok, Err}
+use Rattle.std.specs.Prelude.{◌≡◌, ◌≢◌, List, ℕ, ◌≤◌, Result, Ok, Err}
 use Rattle.std.proofs.Common.{sym, ap, ◌∙◌, subst, le_trans}
 use Rattle.std.proofs.Math.ListN.{length}
 use native.Mathlib.Omega.{arith}
-use borrow.Author.Tests.{eq-eqb, ne_eqb, lt-ltb, le-ltb}
+use borrow.Author.Tests.{eq-eqb, ne_eqb, le-ltb}
 use Rattle.matrix.specs.Operator.{SameOperator}
-use Rattle.file.specs.File.{long_length, kind_for, length_for, file_of, written, Fits}
+use Rattle.file.specs.File.{long_length, kind_for, length_for, Fits}
+use Rattle.file.specs.Writing.{file_answer, file_buffer, FileWritten}
 use Rattle.file.specs.Laws.File.{length_most, exponent_back, orthogonal_fits}
 use Rattle.matrix.specs.declared.Scaled.{Scaled}
 use Rattle.sheet_bytes.specs.Bytes.{sheet_operator}
@@ -32,19 +33,12 @@ module _ (s old : List ℕ) where
       promised (rw t (ap Err c.0)) (rw t)
 
   module _ (r : Scaled) (c : SheetRead s (Ok r)) where
-    pub no_room : length old < length_for r.exponent → OperatorPromise s old old (Err 6)
+    pub wrote : {new : List ℕ} {a : Result ℕ ℕ} → FileWritten r.exponent r.matrix old new a → OperatorPromise s old new a
     unfolding operator_answer operator_buffer
-    no_room h =
+    wrote {new} {a} w =
         let t = eq-eqb (sheet_refusal s) 0 c.0 in
-        let l = lt-ltb (length old) (length_for (sheet_least s).exponent) (subst (λ (f : Scaled). length old < length_for f.exponent) c.1 h) in
-        promised (rw (t, l)) (rw (t, l))
-
-    pub done : (new : List ℕ) → length_for r.exponent ≤ length old → new ≡ written old (file_of r.exponent r.matrix) → OperatorPromise s old new (Ok r.exponent)
-    unfolding operator_answer operator_buffer
-    done new h n =
-        let t = eq-eqb (sheet_refusal s) 0 c.0 in
-        let l = le-ltb (length old) (length_for (sheet_least s).exponent) (subst (λ (f : Scaled). length_for f.exponent ≤ length old) c.1 h) in
-        promised (rw (t, l) (ap (λ (f : Scaled). Ok f.exponent) c.1)) (rw (t, l) (n ∙ ap (λ (f : Scaled). written old (file_of f.exponent f.matrix)) c.1))
+        let (p, q) = subst (λ (f : Scaled). (a ≡ file_answer f.exponent (length old)) × (new ≡ file_buffer f.exponent f.matrix old)) c.1 (w.answer, w.buffer) in
+        promised (rw t p) (rw t q)
 
     -- the entries fit the file
     pub fits : Fits (kind_for r.exponent) r.matrix

@@ -52,17 +52,17 @@ module _ (count n : ℕ) (numbers columns : List ℕ) (h : count ≤ 60) (l : le
       ∙ signed_at sign columns (n - 1 - count) (omega arith))
 
 pub returns-then-n-eq0 : goal.returns-then-n-eq0
-returns-then-n-eq0 c = first c.args.cut.now.count c.args.n c.args.cut.now.numbers c.args.cut.now.columns c.requires.0 (omega arith) (omega arith) c.if-n-eq0.true
+returns-then-n-eq0 c = first c.args.cut.now.count c.args.n c.args.cut.now.numbers c.args.cut.now.columns (omega arith) (omega arith) (omega arith) c.if-n-eq0.true
 
 pub returns-then-n-t : goal.returns-then-n-t
 returns-then-n-t c =
-    front c.args.cut.now.count c.args.n c.args.cut.now.numbers c.args.cut.now.columns c.requires.0 (omega arith) (omega arith) (omega arith) c.if-n-t.true
+    front c.args.cut.now.count c.args.n c.args.cut.now.numbers c.args.cut.now.columns (omega arith) (omega arith) (omega arith) (omega arith) c.if-n-t.true
 
 pub returns-then-n-t-2 : goal.returns-then-n-t-2
 returns-then-n-t-2 c =
-    c.sign_byte-sign.ensures ∙ last c.args.cut.now.count c.args.n c.args.cut.now.numbers c.args.cut.now.columns c.requires.0 (omega arith) (omega arith) c.if-n-t-2.true
+    c.sign_byte-sign.ensures ∙ last c.args.cut.now.count c.args.n c.args.cut.now.numbers c.args.cut.now.columns (omega arith) (omega arith) (omega arith) c.if-n-t-2.true
 
 pub returns : goal.returns
 returns c =
     c.signed_byte.ensures ∙ ap (λ x. signed_byte x (get_or c.args.cut.now.columns (c.args.n - 1 - c.args.cut.now.count) 0)) c.sign_byte-sign.ensures
-    ∙ column c.args.cut.now.count c.args.n c.args.cut.now.numbers c.args.cut.now.columns c.requires.0 (omega arith) (omega arith) c.if-n-t.false (omega (arith, c.requires.1))
+    ∙ column c.args.cut.now.count c.args.n c.args.cut.now.numbers c.args.cut.now.columns (omega arith) (omega arith) (omega arith) c.if-n-t.false (omega arith)

@@ -36,9 +36,7 @@ write_list-list-requires c =
     let f = c.form_of-form in
     let t = c.cut_orthogonal-cut in
     let h = held _ (is_unitary_lem _ [] _ e) f.result f.ensures t.result t.ensures in
-    let l = is_small_lem _ [] _ e in
-    let m = h.small in
-    (omega arith, h.numbers, h.columns, omega arith)
+    (h.numbers, h.columns, omega arith)
 
 pub returns : goal.returns
 returns c =

@@ -10,7 +10,8 @@ use Rattle.std.proofs.Math.Seq.{take_at}
 use Rattle.matrix.specs.Matrix.{entry, listed}
 use Rattle.matrix.specs.Operator.{operator, SameUpToSign, Orthogonal}
 use Rattle.matrix.specs.Laws.Operator.{same_operator_sym, same_orthogonal, negative_orthogonal}
-use Rattle.matrix.specs.Laws.Array.{length_listed, least_form_lem, listed_same}
+use Rattle.matrix.specs.Laws.Array.{length_listed, listed_same}
+use Rattle.matrix.specs.declared.Scaled.{Scaled}
 use Rattle.clifford.specs.Columns.{are_column_bytes}
 use Rattle.clifford.specs.Laws.Columns.{matrix_permutation, permutation_complete, columns_valid}
 use Rattle.clifford.specs.Laws.Sign.{up_trans}
@@ -31,7 +32,6 @@ use Rattle.omega.specs.Modular.{power_of}
 use Rattle.unitary_file.specs.declared.Entries.{Entries}
 use Rattle.unitary_file.specs.Unitary.{Narrow, ReadAs, largest_unitary, unitary_of, unitary_refusal}
 use Rattle.unitary_file.specs.Laws.Accepted.{accepted}
-use Rattle.six_form.specs.declared.Form.{Form}
 use Rattle.six_form.specs.Places.{FormAs}
 use Rattle.unitary_gates.specs.Promise.{form_count, form_loose, form_list, UnitaryList, UnitaryPromise}
 use Rattle.unitary_gates.specs.Laws.List.{array_orthogonal, unitary_list, form_count_small, list_of_form}
@@ -39,7 +39,7 @@ use Rattle.unitary_gates.specs.Laws.Exactly.{exactly_refused, exactly_accepted}
 
 -- ---- the form that was computed, and its normal form
 
-module _ (U : Quotient) (o : Unitary U) (f : Form) (a : FormAs U f) where
+module _ (U : Quotient) (o : Unitary U) (f : Scaled) (a : FormAs U f) where
   abbrev k : ℕ
   k = f.exponent
 
@@ -53,7 +53,6 @@ module _ (U : Quotient) (o : Unitary U) (f : Form) (a : FormAs U f) where
   pub record Held (c : Cut) : Type 0 where
     pub count : c.count ≡ form_count U
     pub loose : c.loose ≡ form_loose U
-    pub small : c.count ≤ 2 * U.exponent + 2
     pub numbers : Numbers (take c.count c.numbers)
     pub columns : are_column_bytes c.columns ≡ true
     pub list : gate_list (take c.count c.numbers) c.columns ≡ form_list U
@@ -67,7 +66,6 @@ module _ (U : Quotient) (o : Unitary U) (f : Form) (a : FormAs U f) where
       record {
         count = t.count ∙ same_count k (form_of U).exponent m (listed (form_of U).matrix) a.long l computed_orthogonal (array_orthogonal U o) same;
         loose = t.loose ∙ same_loose k (form_of U).exponent m (listed (form_of U).matrix) a.long l computed_orthogonal (array_orthogonal U o) same;
-        small = let h = (least_form_lem k m).below in let e = t.count in let s = a.small in omega arith;
         numbers = rw n q.numbers;
         columns = rw (t.columns) (columns_valid _ (permutation_complete _ (matrix_permutation (entry (remaining k m)) q.orthogonal)));
         list = ap₂ gate_list n (t.columns) ∙ list_of_form U o k m a.long computed_orthogonal a.same;
@@ -114,7 +112,7 @@ module _ (b old : List ℕ) where
     pub is_small_lem : r.exponent ≤ largest_unitary
     is_small_lem = rw p.1.exponent (accepted b none).range
 
-    module _ (f : Form) (a : FormAs W f) (c : Cut) (t : CutFrom f.exponent f.matrix c) where
+    module _ (f : Scaled) (a : FormAs W f) (c : Cut) (t : CutFrom f.exponent f.matrix c) where
       what : Held W is_unitary_lem f a c
       what = held W is_unitary_lem f a c t
 
