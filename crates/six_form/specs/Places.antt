@@ -1,13 +1,14 @@
 -- The six-by-six form as it is computed. Each of the six matrices of its basis has its entries at a place and at the complementary one, 5 less it.
-use Rattle.std.specs.Prelude.{Bool, List, [], ◌∷◌, ◌≡◌, ℕ, ◌+◌, ◌*◌, ◌≤◌, ℤ, pos, length, get_or}
-use Rattle.matrix.specs.Range.{every}
+use Rattle.std.specs.Prelude.{Bool, List, [], ◌∷◌, map, ◌≡◌, ℕ, ◌+◌, ◌*◌, ◌/◌, ◌%◌, ◌≤◌, ℤ, pos, length, get_or}
+use Rattle.matrix.specs.Range.{every, tabulate}
 use Rattle.matrix.specs.Integer.{equals}
-use Rattle.matrix.specs.Matrix.{entry, listed}
+use Rattle.matrix.specs.Matrix.{entry}
 use Rattle.matrix.specs.Operator.{operator, SameUpToSign}
-use Rattle.matrix.specs.declared.Scaled.{Scaled}
-use Rattle.unitary.specs.Unitary.{Quotient, matrix_of}
+use Rattle.gaussian.specs.declared.Gaussian.{Gaussian}
+use Rattle.gaussian.specs.Gaussian.{Matrix}
+use Rattle.unitary.specs.Unitary.{Quotient}
 use Rattle.unitary.specs.Form.{six_form, form_of}
-use Rattle.six_form.specs.declared.Parts.{Parts}
+use Rattle.matrix.specs.declared.Scaled.{Scaled}
 
 -- the lower of the two places of basis matrix c
 abbrev pub place_of : ℕ → ℕ
@@ -17,10 +18,15 @@ place_of c = get_or (0 ∷ 0 ∷ 2 ∷ 1 ∷ 1 ∷ 2 ∷ []) c 0
 unfoldable pub is_zero : List ℤ → Bool
 is_zero m = every 36 (λ n. equals (get_or m n (pos 0)) (pos 0))
 
--- twice the form's real and imaginary parts, row by row
-pub record PartsOf (n : List ℤ) (r : Parts) : Type 0 where
-  pub re : r.re ≡ listed (λ i j. (six_form (matrix_of n) i j).re)
-  pub im : r.im ≡ listed (λ i j. (six_form (matrix_of n) i j).im)
+-- twice the form's entries, row by row
+unfoldable pub form_entries : Matrix → List Gaussian
+form_entries N = tabulate (λ n. six_form N (n / 6) (n % 6)) 0 36
+
+abbrev pub real_parts : List Gaussian → List ℤ
+real_parts m = map (λ x. x.re) m
+
+abbrev pub imaginary_parts : List Gaussian → List ℤ
+imaginary_parts m = map (λ x. x.im) m
 
 -- the form up to sign, of an exponent of at most 2 k + 2
 pub record FormAs (U : Quotient) (r : Scaled) : Type 0 where

@@ -4,13 +4,14 @@
 
 ghost use Rattle.std.specs.Prelude.{◌≡◌, ◌-◌, ◌^◌, ◌<◌, ◌≤◌};
 ghost use Rattle.gaussian.specs.Gaussian.{Within, ◌⊗◌, product};
-ghost use Rattle.unitary.specs.Unitary.{Unitary, quotient, matrix_of};
+ghost use Rattle.unitary.specs.Unitary.{Unitary, matrix_of};
 ghost use Rattle.unitary.specs.Form.{row_at, column_at, compound, basis, six_form};
-ghost use Rattle.unitary_file.specs.Unitary.{Narrow};
-ghost use Rattle.six_form.specs.Places.{place_of, is_zero, PartsOf, FormAs};
+ghost use Rattle.unitary_file.specs.Reading.{unitary_in};
+ghost use Rattle.six_form.specs.Places.{place_of, form_entries, real_parts, imaginary_parts, is_zero, FormAs};
 
 use gaussian::Gaussian;
 use matrix::Scaled;
+use unitary_file::Entries;
 
 // The row and the column of each place above the diagonal.
 // Wrong, and refused: another row or column for a place; the columns of two places exchanged.
@@ -32,26 +33,25 @@ fn column_at(p: usize) -> usize
 
 // The product of entries (a, c) and (b, d).
 // Wrong, and refused: the first factor from the transpose; both factors from one row.
-fn product_of(n: &[i64; 32], a: usize, c: usize, b: usize, d: usize) -> Gaussian
-    requires { (a < 4) × (c < 4) × (b < 4) × (d < 4) × Narrow n.now }
-    ensures { (result ≡ matrix_of n.now a c ⊗ matrix_of n.now b d) × Within (2 ^ 31) result }
+fn product_of(u: &Entries, a: usize, c: usize, b: usize, d: usize) -> Gaussian
+    requires { (a < 4) × (c < 4) × (b < 4) × (d < 4) }
+    ensures { (result ≡ matrix_of u.now.entries a c ⊗ matrix_of u.now.entries b d) × Within (2 ^ 31) result }
 {
-    let x = unitary_file::entry_of(n, a, c);
-    gaussian::times(x, unitary_file::entry_of(n, b, d))
+    gaussian::times(u.entry(a, c), u.entry(b, d))
 }
 
 // The two-by-two minor at the rows of place p and the columns of place q.
 // Wrong, and refused: that of the transpose; one product taken off itself.
-fn minor(n: &[i64; 32], p: usize, q: usize) -> Gaussian
-    requires { (p < 6) × (q < 6) × Narrow n.now }
-    ensures { (result ≡ compound (matrix_of n.now) p q) × Within (2 ^ 32) result }
+fn minor(u: &Entries, p: usize, q: usize) -> Gaussian
+    requires { (p < 6) × (q < 6) }
+    ensures { (result ≡ compound (matrix_of u.now.entries) p q) × Within (2 ^ 32) result }
 {
     let a = row_at(p);
     let b = column_at(p);
     let c = row_at(q);
     let d = column_at(q);
-    let x = product_of(n, a, c, b, d);
-    let y = product_of(n, a, d, b, c);
+    let x = product_of(u, a, c, b, d);
+    let y = product_of(u, a, d, b, c);
     gaussian::minus(x, y)
 }
 
@@ -95,82 +95,89 @@ fn upper(c: usize) -> Gaussian
 
 // The minors times the basis: two of the six products count.
 // Wrong, and refused: the rows of another place; the minor of another place.
-fn half_entry(n: &[i64; 32], p: usize, c: usize) -> Gaussian
-    requires { (p < 6) × (c < 6) × Narrow n.now }
-    ensures { (result ≡ product 6 (compound (matrix_of n.now)) basis p c) × Within (2 ^ 34) result }
+fn half_entry(u: &Entries, p: usize, c: usize) -> Gaussian
+    requires { (p < 6) × (c < 6) }
+    ensures { (result ≡ product 6 (compound (matrix_of u.now.entries)) basis p c) × Within (2 ^ 34) result }
 {
     let q = place_of(c);
-    let left = gaussian::times(lower(c), minor(n, p, q));
-    let right = gaussian::times(upper(c), minor(n, p, 5 - q));
+    let left = gaussian::times(lower(c), minor(u, p, q));
+    let right = gaussian::times(upper(c), minor(u, p, 5 - q));
     gaussian::plus(left, right)
 }
 
 // An entry of the form, twice.
 // Wrong, and refused: the place of the column for that of the row; the column of the row's number.
-fn form_entry(n: &[i64; 32], r: usize, c: usize) -> Gaussian
-    requires { (r < 6) × (c < 6) × Narrow n.now }
-    ensures { (result ≡ six_form (matrix_of n.now) r c) × Within (2 ^ 36) result }
+fn form_entry(u: &Entries, r: usize, c: usize) -> Gaussian
+    requires { (r < 6) × (c < 6) }
+    ensures { (result ≡ six_form (matrix_of u.now.entries) r c) × Within (2 ^ 36) result }
 {
     let p = place_of(r);
-    let left = gaussian::times(gaussian::conjugate(lower(r)), half_entry(n, p, c));
-    let right = gaussian::times(gaussian::conjugate(upper(r)), half_entry(n, 5 - p, c));
+    let left = gaussian::times(gaussian::conjugate(lower(r)), half_entry(u, p, c));
+    let right = gaussian::times(gaussian::conjugate(upper(r)), half_entry(u, 5 - p, c));
     gaussian::plus(left, right)
 }
 
-// All entries, twice, by their parts.
-#[derive(Clone, Copy, Debug, PartialEq, Eq)]
-struct Parts {
-    re: [i64; 36],
-    im: [i64; 36],
-}
-
-// Wrong, and refused: the real parts for the imaginary ones; the entries column by column.
-fn parts_of(n: &[i64; 32]) -> Parts
-    requires { Narrow n.now }
-    ensures { PartsOf n.now result }
+// All entries, twice, row by row.
+// Wrong, and refused: the entries column by column.
+fn form_entries(u: &Entries) -> [Gaussian; 36]
+    ensures { result ≡ form_entries (matrix_of u.now.entries) }
 {
-    let mut re = [0i64; 36];
-    let mut im = [0i64; 36];
-    for i in 0..36 {
-        let x = form_entry(n, i / 6, i % 6);
-        re[i] = x.re;
-        im[i] = x.im;
-    }
-    Parts { re, im }
+    std::array::from_fn(|i| form_entry(u, i / 6, i % 6))
 }
 
-// Whether all numbers are 0.
+// Their real parts.
+// Wrong, and refused: the imaginary parts.
+fn real_parts(entries: &[Gaussian; 36]) -> [i64; 36]
+    ensures { result ≡ real_parts entries.now }
+{
+    std::array::from_fn(|i| entries[i].re)
+}
+
+// Their imaginary parts.
+// Wrong, and refused: the real parts.
+fn imaginary_parts(entries: &[Gaussian; 36]) -> [i64; 36]
+    ensures { result ≡ imaginary_parts entries.now }
+{
+    std::array::from_fn(|i| entries[i].im)
+}
+
+// Whether all of them are imaginary.
 // Wrong, and refused: the first row alone; the first half alone; 1 in place of 0; true for every number.
-fn is_zero(m: &[i64; 36]) -> bool
-    ensures { result ≡ is_zero m.now }
+fn is_imaginary(entries: &[Gaussian; 36]) -> bool
+    ensures { result ≡ is_zero (real_parts entries.now) }
 {
-    m.iter().all(|x| *x == 0)
+    entries.iter().all(|x| x.re == 0)
+}
+
+// Whether all of them are real.
+fn is_real(entries: &[Gaussian; 36]) -> bool
+    ensures { result ≡ is_zero (imaginary_parts entries.now) }
+{
+    entries.iter().all(|x| x.im == 0)
 }
 
 // The form, up to sign. All entries have one phase: they are real, or imaginary, or all of them are multiples of 1 + i or of 1 - i, and then the real
 // part is half of what a power of ω makes them.
 // Wrong, and refused: the real part of a form that is imaginary; one exponent for all phases.
-pub fn form_of(k: u8, n: &[i64; 32]) -> Scaled
-    requires { (k ≤ 29) × Narrow n.now × Unitary (quotient k (matrix_of n.now)) }
-    ensures { FormAs (quotient k (matrix_of n.now)) result }
+pub fn form_of(u: &Entries) -> Scaled
+    requires { Unitary (unitary_in u.now) }
+    ensures { FormAs (unitary_in u.now) result }
 {
-    let parts = parts_of(n);
-    let re = parts.re;
-    let im = parts.im;
-    if is_zero(&re) {
+    let entries = form_entries(u);
+    if is_imaginary(&entries) {
         return Scaled {
-            exponent: 2 * k + 2,
-            matrix: im,
+            exponent: 2 * u.exponent + 2,
+            matrix: imaginary_parts(&entries),
         };
     }
-    if is_zero(&im) {
+    if is_real(&entries) {
         return Scaled {
-            exponent: 2 * k + 2,
-            matrix: re,
+            exponent: 2 * u.exponent + 2,
+            matrix: real_parts(&entries),
         };
     }
     Scaled {
-        exponent: 2 * k + 1,
-        matrix: re,
+        exponent: 2 * u.exponent + 1,
+        matrix: real_parts(&entries),
     }
 }

@@ -1,3 +1,4 @@
 -- Definitions first; the theorems about them are in `Laws/`.
 pub mod Unitary
+pub mod Reading
 pub mod Laws

@@ -1,13 +1,11 @@
 -- A unitary's 65 bytes (document 02, P5), and the refusals 17, 18 and 19.
-use Rattle.std.specs.Prelude.{Bool, not, cond, ◌||◌, List, ◌≡◌, ℕ, ◌/◌, ◌%◌, ◌^◌, ◌≤◌, eqb, ltb, ℤ, pos, nat_abs, ◌*ℤ◌, length, get_or, Result}
-use Rattle.refusal.specs.Refusal.{RefusedOr}
+use Rattle.std.specs.Prelude.{Bool, not, cond, ◌||◌, List, ℕ, ◌/◌, ◌%◌, ◌^◌, ◌≤◌, eqb, ltb, ℤ, pos, nat_abs, ◌*ℤ◌, length, get_or}
 use Rattle.std.specs.Int.Signed.{le_z}
 use Rattle.matrix.specs.Range.{every, tabulate}
 use Rattle.matrix.specs.Matrix.{δ}
 use Rattle.file.specs.File.{short_file, file_exponent, entry_of}
 use Rattle.gaussian.specs.Gaussian.{real, norm_of, Matrix, product, adjoint, equals}
 use Rattle.unitary.specs.Unitary.{Quotient, quotient, matrix_of}
-use Rattle.unitary_file.specs.declared.Entries.{Entries}
 
 -- "an exponent k from 0 to" 29: "P5's exponent, and with it 17, rises to 29" (document 02, P10)
 abbrev pub largest_unitary : ℕ
@@ -48,13 +46,3 @@ entries_refusal U = cond (not (is_small U.exponent U.matrix)) 18 (cond (not (is_
 -- all of its refusals, "in that order": "17, wrong length or k above" 29, then those for its entries. 0 is none
 unfoldable pub unitary_refusal : List ℕ → ℕ
 unitary_refusal b = cond (not (eqb (length b) unitary_length) || ltb largest_unitary (file_exponent b)) 17 (entries_refusal (unitary_of b))
-
--- the exponent and the entries of 65 bytes
-pub record EntriesOf (b : List ℕ) (r : Entries) : Type 0 where
-  pub exponent : r.exponent ≡ file_exponent b
-  pub entries : r.entries ≡ unitary_entries b
-  pub narrow : Narrow r.entries
-
--- what reading gives: the refusal or, where there is none, the exponent and the entries
-abbrev pub ReadAs : List ℕ → Result Entries ℕ → Type 0
-ReadAs b r = RefusedOr (unitary_refusal b) (EntriesOf b) r

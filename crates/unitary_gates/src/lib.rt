@@ -6,6 +6,7 @@ ghost use Rattle.refusal.specs.Refusal.{numbered};
 ghost use Rattle.unitary_gates.specs.Promise.{UnitaryPromise};
 
 use refusal::Refusal;
+use unitary_file::Entries;
 
 // What the call answers: the count with the number of letters written, L and the power of ω.
 #[derive(Clone, Copy, Debug, PartialEq, Eq)]
@@ -22,14 +23,14 @@ pub struct Synthesis {
 pub fn unitary_to_gates(bytes: &[u8], out: &mut [u8]) -> Result<Synthesis, Refusal>
     ensures { UnitaryPromise bytes.now out.old out.new (numbered result) }
 {
-    let read = unitary_file::read_unitary(bytes)?;
-    let form = six_form::form_of(read.exponent, &read.entries);
+    let read = Entries::read(bytes)?;
+    let form = six_form::form_of(&read);
     let cut = acceptance::cut_orthogonal(&form);
     if out.len() < 256 * (cut.count as usize + 1) {
         return Err(Refusal::Buffer);
     }
     let list = gate_list::write_list(&cut, out);
-    let power = omega::power_of(read.exponent, read.entries, &out[..list.letters]);
+    let power = omega::power_of(&read, &out[..list.letters]);
     Ok(Synthesis {
         count: cut.count,
         letters: list.letters,

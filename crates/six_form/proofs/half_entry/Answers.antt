@@ -34,8 +34,8 @@ returns c =
     let e = c.place_of-q.ensures.0 in (
       c.plus.ensures
           ∙ ap₂ (λ x y. x ⊕ y)
-          (c.times-left.ensures ∙ first_term a.n.now a.p a.c _ e c.lower.ensures.0 c.minor.ensures.0)
-          (c.times-right.ensures ∙ second_term a.n.now a.p a.c _ e c.upper.ensures.0 c.minor-2.ensures.0)
-          ∙ sym (half_entry (compound (matrix_of a.n.now)) a.p a.c c.requires.1),
+          (c.times-left.ensures ∙ first_term a.u.now.entries a.p a.c _ e c.lower.ensures.0 c.minor.ensures.0)
+          (c.times-right.ensures ∙ second_term a.u.now.entries a.p a.c _ e c.upper.ensures.0 c.minor-2.ensures.0)
+          ∙ sym (half_entry (compound (matrix_of a.u.now.entries)) a.p a.c c.requires.1),
       subst (Within (2 ^ 34)) (sym c.plus.ensures) (within-⊕ (subst (Within (2 ^ 33)) (sym c.times-left.ensures) (within-⊗ c.lower.ensures.1 c.minor.ensures.1)) (subst (Within (2 ^ 33)) (sym c.times-right.ensures) (within-⊗ c.upper.ensures.1 c.minor-2.ensures.1))),
     )

@@ -19,6 +19,6 @@ returns c =
     let x = c.product_of-x.ensures in
     let y = c.product_of-y.ensures in (
       c.minus.ensures ∙ ap₂ (λ x y. x ⊖ y) x.0 y.0
-          ∙ at c.args.n.now c.args.p c.args.q _ _ _ _ c.row_at-a.ensures.0 c.column_at-b.ensures.0 c.row_at-c.ensures.0 c.column_at-d.ensures.0,
+          ∙ at c.args.u.now.entries c.args.p c.args.q _ _ _ _ c.row_at-a.ensures.0 c.column_at-b.ensures.0 c.row_at-c.ensures.0 c.column_at-d.ensures.0,
       subst (Within (2 ^ 32)) (sym c.minus.ensures) (within-⊖ x.1 y.1),
     )

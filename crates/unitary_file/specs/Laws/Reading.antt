@@ -5,7 +5,8 @@ use Rattle.matrix.specs.Range.{tabulate}
 use Rattle.file.specs.File.{short_file, file_exponent, entry_of}
 use Rattle.file.specs.Laws.File.{entry_size}
 use Rattle.unitary.specs.Unitary.{matrix_of}
-use Rattle.unitary_file.specs.Unitary.{Narrow, ReadAs, entries_refusal, is_small, is_unitary, largest_unitary, unitary_entries, unitary_length, unitary_of, unitary_refusal}
+use Rattle.unitary_file.specs.Reading.{ReadAs}
+use Rattle.unitary_file.specs.Unitary.{Narrow, entries_refusal, is_small, is_unitary, largest_unitary, unitary_entries, unitary_length, unitary_of, unitary_refusal}
 
 pub wrong_length : (b : List ℕ) → length b ≢ unitary_length → unitary_refusal b ≡ 17
 unfolding unitary_refusal

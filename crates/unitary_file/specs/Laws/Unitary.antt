@@ -1,7 +1,7 @@
 -- What the numbers of a unitary's bytes are, how large they are, and what passing the tests means.
 use Rattle.std.specs.Prelude.{List, ℕ, ◌+◌, ◌*◌, ◌^◌, ◌≤◌, ℤ}
 use Rattle.std.proofs.Common.{arith}
-use Rattle.gaussian.specs.Gaussian.{Within, ◌⊗◌, adjoint, product, sum}
+use Rattle.gaussian.specs.Gaussian.{Within, ◌⊗◌, adjoint, sum}
 use Rattle.gaussian.specs.Laws.Size.{within_more, within-⊗, within_conj, within_sum}
 use Rattle.unitary.specs.Unitary.{matrix_of}
 use Rattle.unitary_file.specs.Unitary.{Narrow}

@@ -2,7 +2,7 @@
 use mathlib.Core.List.{[]}
 use native.Mathlib.Omega.{arith}
 use Rattle.std.proofs.lemmas.Result.{err_from_is_err_and}
-use Rattle.unitary_gates.specs.Laws.Promise.{computed_orthogonal, held, unitary_refused, is_unitary_lem, is_narrow, is_small_lem, unitary_no_room, unitary_done}
+use Rattle.unitary_gates.specs.Laws.Promise.{computed_orthogonal, held, unitary_refused, is_unitary_lem, unitary_no_room, unitary_done}
 use Rattle.unitary_gates.proofs.unitary_to_gates.Goals as goal
 
 pub returns-in_err-read : goal.returns-in_err-read
@@ -11,16 +11,13 @@ returns-in_err-read c =
     rw (p.1, p.2) (unitary_refused c.args.bytes.now c.args.out.now _ c.in_err-read.ensures)
 
 pub form_of-form-requires : goal.form_of-form-requires
-form_of-form-requires c =
-    let e = c.in_ok-read.ensures in
-    let l = is_small_lem _ [] _ e in
-    (omega arith, is_narrow _ [] _ e, is_unitary_lem _ [] _ e)
+form_of-form-requires c = is_unitary_lem _ [] _ c.in_ok-read.ensures
 
 pub cut_orthogonal-cut-requires : goal.cut_orthogonal-cut-requires
 cut_orthogonal-cut-requires c =
     let e = c.in_ok-read.ensures in
     let f = c.form_of-form in
-    let l = is_small_lem _ [] _ e in
+    let l = c.in_ok-read.read.in_range in
     let m = f.ensures.small in
     (omega arith, computed_orthogonal _ (is_unitary_lem _ [] _ e) f.result f.ensures)
 
@@ -36,6 +33,8 @@ write_list-list-requires c =
     let f = c.form_of-form in
     let t = c.cut_orthogonal-cut in
     let h = held _ (is_unitary_lem _ [] _ e) f.result f.ensures t.result t.ensures in
+    let l = c.in_ok-read.read.in_range in
+    let m = h.small in
     (h.numbers, h.columns, omega arith)
 
 pub returns : goal.returns

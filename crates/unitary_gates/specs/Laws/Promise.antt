@@ -30,7 +30,8 @@ use Rattle.unitary.specs.Form.{form_of}
 use Rattle.unitary.specs.Laws.Exact.{form}
 use Rattle.omega.specs.Modular.{power_of}
 use Rattle.unitary_file.specs.declared.Entries.{Entries}
-use Rattle.unitary_file.specs.Unitary.{Narrow, ReadAs, largest_unitary, unitary_of, unitary_refusal}
+use Rattle.unitary_file.specs.Unitary.{largest_unitary, unitary_of, unitary_refusal}
+use Rattle.unitary_file.specs.Reading.{ReadAs, unitary_in}
 use Rattle.unitary_file.specs.Laws.Accepted.{accepted}
 use Rattle.six_form.specs.Places.{FormAs}
 use Rattle.unitary_gates.specs.Promise.{form_count, form_loose, form_list, UnitaryList, UnitaryPromise}
@@ -98,19 +99,13 @@ module _ (b old : List ℕ) where
     none = p.0
 
     abbrev W : Quotient
-    W = quotient r.exponent (matrix_of r.entries)
+    W = unitary_in r
 
     is : W ≡ unitary_of b
     is = ap₂ (λ k n. quotient k (matrix_of n)) p.1.exponent p.1.entries
 
     pub is_unitary_lem : Unitary W
     is_unitary_lem = rw is (accepted b none).unitary
-
-    pub is_narrow : Narrow r.entries
-    is_narrow = p.1.narrow
-
-    pub is_small_lem : r.exponent ≤ largest_unitary
-    is_small_lem = rw p.1.exponent (accepted b none).range
 
     module _ (f : Scaled) (a : FormAs W f) (c : Cut) (t : CutFrom f.exponent f.matrix c) where
       what : Held W is_unitary_lem f a c

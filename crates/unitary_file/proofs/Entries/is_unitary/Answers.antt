@@ -12,7 +12,7 @@ use Rattle.matrix.specs.Laws.Machine.{kept}
 use Rattle.matrix.proofs.Chains.{every_in}
 use Rattle.unitary.specs.Unitary.{matrix_of}
 use Rattle.unitary_file.specs.Unitary.{unitary_at, is_unitary}
-use Rattle.unitary_file.proofs.is_unitary.Goals as goal
+use Rattle.unitary_file.proofs.Entries.is_unitary.Goals as goal
 
 -- whether the rows of pair p are as they should be
 abbrev test_at : ℤ → List ℤ → ℕ → Bool
@@ -21,7 +21,7 @@ test_at norm n p = unitary_at norm (matrix_of n) (p / 4) (p % 4)
 pub returns : goal.returns
 unfolding is_unitary
 returns c =
-    let n = c.args.n.now in
+    let n = c.args.self.now.entries in
     let q = c.power_of_two-norm in
     all_from_yields_List (test_at q.result n) _ _ _ c.all.ensures.ran (YieldsList-from_range 0 16 16 refl refl) (λ x b r k. search (rules, tests, kept {z = q.result} q.type_inv))
     ∙ every_in (test_at q.result n) 0 16

@@ -1,9 +1,10 @@
 -- Two numbers of 64 bits are equal exactly if their bits are.
-use mathlib.Core.Path.{◌≡◌, refl, sym, ap, ap₂, subst, ◌∙◌}
+use mathlib.Core.Path.{◌≡◌, refl, ap, ◌∙◌}
 use mathlib.Core.Bool.{Bool, true, false, ◌&&◌}
 use Prim.Native.Nat.{◌^◌, ◌<◌}
 use native.Mathlib.Nat.{lt_of_le_of_lt}
 use native.Mathlib.Omega.{arith}
+use borrow.Author.Tests.{ne_eqb}
 use lib.Dec.{lit<, eqb}
 use lib.IntN.{ℤ, pos, ◌*ℤ◌, *ℤ-zero}
 use lib.Signed.{mag}
@@ -17,7 +18,8 @@ use Rattle.matrix.specs.Laws.Machine.{mag_le, same_bits, equal_bits}
 use Rattle.gaussian.specs.declared.Gaussian.{Gaussian}
 use Rattle.gaussian.specs.Gaussian.{real, Within, equals}
 use Rattle.unitary_file.specs.Laws.Unitary.{terms_within}
-use Rattle.unitary_file.proofs.rows_unitary.Goals as goal
+use Rattle.unitary_file.proofs.Entries.rows_unitary.Goals.{then-i-j, else-i-j}
+use Rattle.unitary_file.proofs.Entries.rows_unitary.Goals as goal
 
 module _ (z : Gaussian) (h : Within (2 ^ 33) z) (x : ℤ) where
   re_fits : mag z.re < 2 ^ 63
@@ -26,10 +28,10 @@ module _ (z : Gaussian) (h : Within (2 ^ 33) z) (x : ℤ) where
   im_fits : mag z.im < 2 ^ 63
   im_fits = lt_of_le_of_lt (mag_le z.im) (lt_of_le_of_lt h.im (lit< tt))
 
-  not_real : (of_z w64 z.im ≡ 0 → ⊥) → equals z (real x) ≡ false
-  not_real n = rw (equals_no {a = z.im} {b = pos 0} (λ e. n (ap (of_z w64) e))) (go (integer.equals z.re x))
+  not_real : (of_z w64 z.im ≡ 0 → ⊥) → eqb (of_z w64 z.im) 0 ≡ equals z (real x)
+  not_real n = ne_eqb _ _ n ∙ rw (equals_no {a = z.im} {b = pos 0} (λ e. n (ap (of_z w64) e))) (go (integer.equals z.re x))
     where
-      go : (b : Bool) → (b && false) ≡ false
+      go : (b : Bool) → false ≡ (b && false)
       go true = refl
       go false = refl
 
@@ -40,18 +42,23 @@ module _ (z : Gaussian) (h : Within (2 ^ 33) z) (x : ℤ) where
       go true = refl
       go false = refl
 
-pub returns-then-i-j : goal.returns-then-i-j
-returns-then-i-j c =
+pub returns-after-i-j : goal.returns-after-i-j
+returns-after-i-j c =
     let p = c.row_product-product in
     let a = c.args in
-    let d : a.norm *ℤ δ a.i a.j ≡ a.norm = rw c.if-i-j.true (rw δ_same (*ℤ-unit-r a.norm)) in
-    is_real p.result (subst (Within (2 ^ 33)) (sym p.ensures) (terms_within a.n.now c.requires.2 a.i a.j 4 (omega arith))) a.norm c.if-product-ne0.false c.ranges.norm.sfits
-    ∙ ap₂ (λ z x. equals z (real x)) p.ensures (sym d)
+    let w = terms_within a.self.now.entries a.self.now.narrow a.i a.j 4 (omega arith) in
+    elim c.if-i-j.branch [
+      | then-i-j b ↦
+          let e : c.if-i-j.result-bits ≡ of_z w64 a.norm = cc in
+          let d : a.norm *ℤ δ a.i a.j ≡ a.norm = rw b.if-i-j.true (rw δ_same (*ℤ-unit-r a.norm)) in
+          rw (e, p.ensures, d) (is_real _ w a.norm (rw p.ensures at c.if-product-eq0.true) c.ranges.norm.sfits)
+      | else-i-j b ↦
+          let e : c.if-i-j.result-bits ≡ 0 = cc in
+          rw (e, p.ensures, δ_other a.i a.j b.if-i-j.false, *ℤ-zero a.norm) (is_real _ w (pos 0) (rw p.ensures at c.if-product-eq0.true) (lit< tt))
+    ]
 
-pub returns : goal.returns
-returns c =
+pub returns-else-product-eq0 : goal.returns-else-product-eq0
+returns-else-product-eq0 c =
     let p = c.row_product-product in
     let a = c.args in
-    let d : a.norm *ℤ δ a.i a.j ≡ pos 0 = rw (δ_other a.i a.j c.if-i-j.false) (*ℤ-zero a.norm) in
-    is_real p.result (subst (Within (2 ^ 33)) (sym p.ensures) (terms_within a.n.now c.requires.2 a.i a.j 4 (omega arith))) (pos 0) c.if-product-ne0.false (lit< tt)
-    ∙ ap₂ (λ z x. equals z (real x)) p.ensures (sym d)
+    rw p.ensures (not_real _ (terms_within a.self.now.entries a.self.now.narrow a.i a.j 4 (omega arith)) (a.norm *ℤ δ a.i a.j) (rw p.ensures at c.if-product-eq0.false))
