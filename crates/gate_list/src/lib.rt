@@ -6,11 +6,12 @@ ghost use Rattle.std.specs.Prelude.{◌≡◌, true, ◌+◌, ◌*◌, ◌≤◌
 ghost use Rattle.clifford.specs.Columns.{are_column_bytes};
 ghost use Rattle.reduction.specs.Laws.NormalForm.{Numbers};
 ghost use Rattle.letter.specs.Written.{Written};
+ghost use Rattle.word_code.specs.Writer.{WritesWord};
 ghost use Rattle.gate_list.specs.List.{right_of, stretch, stretch_sign, gate_list, list_sign};
 ghost use Rattle.gate_list.specs.Stretches.{stretch_codes};
 
 use reduction::Cut;
-use word_table::Word;
+use text::Writer;
 
 // The stretch before generator h, where g is the generator before it, with the C of h: number 15 × (g − 1) + (h − 1), as `word_code` has words. Its
 // sign stands above the letters: the octal digit 16.
@@ -280,18 +281,15 @@ fn right_of(g: usize) -> [u8; 6]
     RIGHTS[g - 1]
 }
 
-// Writes the stretch between generators g and h, and the C of h.
+// Writes the stretch between generators g and h, and the C of h, and answers its sign.
 // Wrong, and refused: the sign taken for a letter; the sign 0 for every stretch.
-fn write_stretch(codes: &[u64; 225], g: usize, h: usize, out: &mut [u8], at: usize) -> Word
-    requires { (1 ≤ g) × (g ≤ 15) × (1 ≤ h) × (h ≤ 15) × (at + 16 ≤ length out.old) × (codes.now ≡ stretch_codes) }
-    ensures { Written (stretch (right_of g) h) at out.old out.new result.next × (result.sign ≡ stretch_sign (right_of g) h) }
+fn write_stretch(codes: &[u64; 225], g: usize, h: usize, writer: &mut Writer<'_>) -> u8
+    requires { (1 ≤ g) × (g ≤ 15) × (1 ≤ h) × (h ≤ 15) × (writer.old.at + 16 ≤ length writer.old.out.now) × (codes.now ≡ stretch_codes) }
+    ensures { WritesWord (stretch (right_of g) h) writer.old writer.new × (result ≡ stretch_sign (right_of g) h) }
 {
     let code = codes[(g - 1) * 15 + (h - 1)];
-    let next = word_code::write_code(code % SIGN, out, at);
-    Word {
-        next,
-        sign: (code / SIGN) as u8,
-    }
+    word_code::write_code(code % SIGN, writer);
+    (code / SIGN) as u8
 }
 
 // The number of CS itself: a generator between two identities, so that the first stretch of a list may stand behind it.
@@ -311,20 +309,18 @@ pub fn write_list(cut: &Cut, out: &mut [u8]) -> List
     ensures { Written (gate_list (take cut.now.count cut.now.numbers) cut.now.columns) 0 out.old out.new result.letters × (result.sign ≡ list_sign (take cut.now.count cut.now.numbers) cut.now.columns) }
 {
     let codes = stretch_codes();
+    let mut writer = Writer::new(out);
     let mut before = CS;
-    let mut at = 0usize;
     let mut signs = 0u8;
     for number in &cut.numbers[..cut.count as usize] {
         let g = *number as usize;
-        let word = write_stretch(&codes, before, g, out, at);
-        at = word.next;
-        signs += word.sign;
+        signs += write_stretch(&codes, before, g, &mut writer);
         before = g;
     }
     let last = letter::compose(right_of(before), cut.columns);
-    let word = word_table::write_clifford(last, out, at);
+    let sign = word_table::write_clifford(last, &mut writer);
     List {
-        letters: word.next,
-        sign: (signs + word.sign) % 2,
+        letters: writer.at,
+        sign: (signs + sign) % 2,
     }
 }

@@ -1,11 +1,13 @@
-// Words as numbers, written letter by letter. The contracts cite specs/Code.antt.
+// Words as numbers, written letter by letter. The contracts cite specs/Code.antt and specs/Writer.antt.
 
 #![tactic(auto)]
 
 ghost use Rattle.std.specs.Prelude.{List, ◌≡◌, ◌+◌, ◌≤◌, length};
 ghost use Rattle.letter.specs.declared.Gate.{Gate};
-ghost use Rattle.letter.specs.Written.{Written};
 ghost use Rattle.word_code.specs.Code.{letter_at, encoded};
+ghost use Rattle.word_code.specs.Writer.{WritesWord};
+
+use text::Writer;
 
 // The letter of an octal digit.
 fn letter_at(digit: u64) -> u8
@@ -25,18 +27,17 @@ fn letter_at(digit: u64) -> u8
 // The most letters of a word in a table.
 const LONGEST: usize = 16;
 
-// Writes the letters of a number from `at` on and returns the place after them; the rest of the buffer stays.
-pub fn write_code(code: u64, out: &mut [u8], at: usize) -> usize
-    requires { at + 16 ≤ length out.old }
-    ensures { (w : List Gate) → code ≡ encoded w → length w ≤ 16 → Written w at out.old out.new result }
+// Writes the letters of a number; the rest of the buffer stays.
+pub fn write_code(code: u64, writer: &mut Writer<'_>)
+    requires { writer.old.at + 16 ≤ length writer.old.out.now }
+    ensures { (w : List Gate) → code ≡ encoded w → length w ≤ 16 → WritesWord w writer.old writer.new }
 {
     let mut rest = code;
-    for i in 0..LONGEST {
+    for _ in 0..LONGEST {
         if rest == 0 {
-            return at + i;
+            return;
         }
-        out[at + i] = letter_at(rest % 8);
+        writer.byte(letter_at(rest % 8));
         rest /= 8;
     }
-    at + LONGEST
 }

@@ -2,10 +2,12 @@
 
 #![tactic(auto)]
 
-ghost use Rattle.std.specs.Prelude.{[], ◌≡◌, ◌+◌, ◌<◌, ◌≤◌, length, get_or};
-ghost use Rattle.letter.specs.Written.{Written};
-ghost use Rattle.word.specs.Word.{part_words, rotation_words, on_qubit, rotations_of, parts_of, clifford_word, word_sign};
+ghost use Rattle.std.specs.Prelude.{[], map, ◌≡◌, ◌+◌, ◌<◌, ◌≤◌, length, get_or};
+ghost use Rattle.word.specs.Word.{part_words, rotation_words, on_second, rotations_of, parts_of, clifford_word, word_sign};
 ghost use Rattle.word_code.specs.Code.{encoded};
+ghost use Rattle.word_code.specs.Writer.{WritesWord};
+
+use text::Writer;
 
 // The tables of specs/Word.antt of `word`. A word is a number; its letters are octal digits, the first one lowest: 1 to 6 for H, h, S, s, Z, C.
 const ROTATIONS: [u64; 36] = [
@@ -14,25 +16,25 @@ const ROTATIONS: [u64; 36] = [
     0o331, 0, 0o3313, 0o33133, 0,
 ];
 
-const SECOND_ROTATIONS: [u64; 36] = [
-    0, 0, 0o242, 0, 0o2442, 0o424, 0o24424, 0, 0o4442, 0o4, 0, 0o4244, 0o24, 0o244, 0, 0o4242, 0o2,
-    0, 0, 0o442442, 0o44424, 0, 0o44, 0o44242, 0o444, 0, 0o244242, 0o42442, 0, 0o42, 0o444242,
-    0o442, 0, 0o4424, 0o44244, 0,
-];
-
 const PARTS: [u64; 16] = [
     0o5215215, 0o15215, 0o35215, 0o15, 0o5215, 0o315, 0o5, 0, 0, 0, 0o42, 0, 0o2, 0o4, 0o2, 0,
 ];
 
-// The number of a rotation of the first or of the second half.
-fn rotation_code(row: usize, second: bool) -> u64
+// The number of a rotation, on the first qubit.
+fn rotation_code(row: usize) -> u64
     requires { row < 36 }
-    ensures { result ≡ encoded (on_qubit second (get_or rotation_words row [])) }
+    ensures { result ≡ encoded (get_or rotation_words row []) }
 {
-    if second {
-        return SECOND_ROTATIONS[row];
-    }
     ROTATIONS[row]
+}
+
+// The number of the same rotation on the second qubit: h and s have the digits after those of H and S, which are odd.
+fn second_rotation_code(row: usize) -> u64
+    requires { row < 36 }
+    ensures { result ≡ encoded (map on_second (get_or rotation_words row [])) }
+{
+    let code = rotation_code(row);
+    code + (code & 0o111111)
 }
 
 // The number of a part.
@@ -44,46 +46,36 @@ fn part_code(part: usize) -> u64
 }
 
 // Writes both rotations.
-fn write_rotations(even: bool, local: [u8; 6], out: &mut [u8], at: usize) -> usize
-    requires { at + 24 ≤ length out.old }
-    ensures { Written (rotations_of even local) at out.old out.new result }
+fn write_rotations(even: bool, local: [u8; 6], writer: &mut Writer<'_>)
+    requires { writer.old.at + 24 ≤ length writer.old.out.now }
+    ensures { WritesWord (rotations_of even local) writer.old writer.new }
 {
     let first = decomposition::rotation_row(even, local[0], local[1]);
     let second = decomposition::rotation_row(even, local[3], local[4]);
-    let next = word_code::write_code(rotation_code(first, false), out, at);
-    word_code::write_code(rotation_code(second, true), out, next)
+    word_code::write_code(rotation_code(first), writer);
+    word_code::write_code(second_rotation_code(second), writer);
 }
 
 // Writes both parts.
-fn write_parts(columns: [u8; 6], out: &mut [u8], at: usize) -> usize
-    requires { at + 25 ≤ length out.old }
-    ensures { Written (parts_of columns) at out.old out.new result }
+fn write_parts(columns: [u8; 6], writer: &mut Writer<'_>)
+    requires { writer.old.at + 25 ≤ length writer.old.out.now }
+    ensures { WritesWord (parts_of columns) writer.old writer.new }
 {
     let first = decomposition::low_bits(columns, 0);
     let second = 8 + decomposition::low_bits(columns, 3);
-    let next = word_code::write_code(part_code(first), out, at);
-    word_code::write_code(part_code(second), out, next)
+    word_code::write_code(part_code(first), writer);
+    word_code::write_code(part_code(second), writer);
 }
 
-// Where a word that is written ends, and its sign.
-#[derive(Clone, Copy, Debug, PartialEq, Eq)]
-pub struct Word {
-    pub next: usize,
-    pub sign: u8,
-}
-
-// Writes the word of a Clifford into the buffer from `at` on; the rest of the buffer stays.
+// Writes the word of a Clifford and answers its sign; the rest of the buffer stays.
 // Wrong, and refused: the sign 0, or 1, for every Clifford; ZZZ in place of Z.
-pub fn write_clifford(columns: [u8; 6], out: &mut [u8], at: usize) -> Word
-    requires { at + 37 ≤ length out.old }
-    ensures { Written (clifford_word columns) at out.old out.new result.next × (result.sign ≡ word_sign columns) }
+pub fn write_clifford(columns: [u8; 6], writer: &mut Writer<'_>) -> u8
+    requires { writer.old.at + 37 ≤ length writer.old.out.now }
+    ensures { WritesWord (clifford_word columns) writer.old writer.new × (result ≡ word_sign columns) }
 {
     let local = decomposition::local_columns(columns);
     let even = decomposition::is_even(local[0], local[1], local[2]);
-    let parts = write_rotations(even, local, out, at);
-    let next = write_parts(columns, out, parts);
-    Word {
-        next,
-        sign: !even as u8,
-    }
+    write_rotations(even, local, writer);
+    write_parts(columns, writer);
+    !even as u8
 }

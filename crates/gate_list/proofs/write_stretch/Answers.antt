@@ -20,7 +20,7 @@ returns c =
     let g = c.args.g in
     let h = c.args.h in
     let e = ap (λ l. get_or l ((g - 1) * 15 + (h - 1)) 0) c.requires.5 in (
-      c.write_code-next.ensures (stretch (right_of g) h) (code_letters g h c.requires.0 c.requires.1 c.requires.2 c.requires.3 _ e)
+      c.write_code.ensures (stretch (right_of g) h) (code_letters g h c.requires.0 c.requires.1 c.requires.2 c.requires.3 _ e)
           (stretch_short g h c.requires.0 c.requires.1 c.requires.2 c.requires.3),
       code_sign g h c.requires.0 c.requires.1 c.requires.2 c.requires.3 _ e,
     )

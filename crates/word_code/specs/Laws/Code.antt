@@ -1,12 +1,14 @@
 -- Digits taken off a number one after the other are the letters of its word.
-use Rattle.std.specs.Prelude.{◌≡◌, refl, ◌≢◌, List, [], ◌∷◌, ◌++◌, ℕ, ◌+◌, ◌/◌, ◌%◌, ◌<◌, ◌≤◌, length, set}
-use Rattle.std.proofs.Common.{sym, ap, subst, ◌∙◌, append_assoc, append-nil, add-zero, arith, length-append}
+use Rattle.std.specs.Prelude.{◌≡◌, refl, ◌≢◌, List, [], ◌∷◌, ◌++◌, ℕ, ◌+◌, ◌/◌, ◌%◌, ◌<◌, ◌≤◌, length}
+use Rattle.std.proofs.Common.{sym, ap, ◌∙◌, append_assoc, append-nil, arith, length-append}
 use Rattle.letter.specs.declared.Gate.{Gate}
 use Rattle.letter.specs.declared.Gate.TheVariants.{H1, H2, S1, S2, Cz, Cs}
 use Rattle.letter.specs.Gate.{letter}
-use Rattle.letter.specs.Written.{Written}
-use Rattle.letter.specs.Laws.Written.{written_none, written_one, written_append}
+use Rattle.text.specs.declared.Writer.{Writer}
+use Rattle.text.specs.Writer.{Writes}
 use Rattle.word_code.specs.Code.{digit, letter_at, encoded}
+use Rattle.word_code.specs.Writer.{WritesWord}
+use Rattle.word_code.specs.Laws.Writer.{word_none, word_one, word_as, word_append}
 
 digit_letter : (g : Gate) → letter_at (digit g) ≡ letter g
 digit_letter H1 = refl
@@ -24,52 +26,47 @@ digit_bounds S2 = (omega arith, omega arith)
 digit_bounds Cz = (omega arith, omega arith)
 digit_bounds Cs = (omega arith, omega arith)
 
--- i letters of the word w are written from `at` on, and `rest` is the number of those that are left
-pub record Begun (w : List Gate) (at : ℕ) (old new : List ℕ) (rest i : ℕ) : Type 0 where
+-- the letters of the word w that are written, and `rest`, the number of those that are left
+pub record Begun (w : List Gate) (old new : Writer) (rest : ℕ) : Type 0 where
   pub done : List Gate
   pub left : List Gate
   pub whole : w ≡ done ++ left
-  pub written : Written done at old new (at + i)
+  pub written : WritesWord done old new
   pub number : rest ≡ encoded left
 
-pub begun : (w : List Gate) (at : ℕ) (old : List ℕ) (code : ℕ) → code ≡ encoded w → Begun w at old old code 0
-begun w at old code e = record { done = []; left = w; whole = refl; written = subst (Written [] at old old) (sym (add-zero at)) (written_none at old); number = e }
+pub begun : (w : List Gate) (old : Writer) (code : ℕ) → code ≡ encoded w → Begun w old old code
+begun w old code e = record { done = []; left = w; whole = refl; written = word_none old; number = e }
 
-module _ (w : List Gate) (at : ℕ) (old new : List ℕ) (rest i : ℕ) (s : Begun w at old new rest i) where
-  pub taken : length s.done ≡ i
-  taken = let e = s.written.next in omega arith
-
+module _ {w : List Gate} {old new : Writer} {rest : ℕ} (s : Begun w old new rest) where
   -- a letter more
-  pub more : rest ≢ 0 → at + i < length new → at + i ≤ length old → Begun w at old (set new (at + i) (letter_at (rest % 8))) (rest / 8) (i + 1)
-  more n h k = go s.left s.whole s.number
+  pub more : rest ≢ 0 → new.at ≤ length old.out.now → {last : Writer} → Writes (letter_at (rest % 8) ∷ []) new last → Begun w old last (rest / 8)
+  more n h {last} k = go s.left s.whole s.number
     where
-      go : (v : List Gate) → w ≡ s.done ++ v → rest ≡ encoded v → Begun w at old (set new (at + i) (letter_at (rest % 8))) (rest / 8) (i + 1)
+      go : (v : List Gate) → w ≡ s.done ++ v → rest ≡ encoded v → Begun w old last (rest / 8)
       go [] p q = absurd (n q)
       go (g ∷ v) p q =
           let (l, u) = digit_bounds g in
           let d : rest % 8 ≡ digit g = omega arith in
-          let r : at + i + 1 ≡ at + (i + 1) = omega arith in
-          let t = taken in
+          let e = s.written.written.next in
           record {
             done = s.done ++ g ∷ [];
             left = v;
             whole = p ∙ sym (append_assoc s.done (g ∷ []) v);
-            written = subst (Written (s.done ++ g ∷ []) at old (set new (at + i) (letter_at (rest % 8)))) r
-                (written_append s.written (omega arith) (subst (λ x. Written (g ∷ []) (at + i) new (set new (at + i) x) (at + i + 1)) (sym (ap letter_at d ∙ digit_letter g)) (written_one g (at + i) new h)));
+            written = word_append s.written (omega arith) (word_one g (ap letter_at d ∙ digit_letter g) k);
             number = omega arith;
           }
 
   -- no letter is left
-  pub over : rest ≡ 0 → Written w at old new (at + i)
+  pub over : rest ≡ 0 → WritesWord w old new
   over z = go s.left s.whole s.number
     where
-      go : (v : List Gate) → w ≡ s.done ++ v → rest ≡ encoded v → Written w at old new (at + i)
-      go [] p q = subst (λ x. Written x at old new (at + i)) (sym (p ∙ append-nil s.done)) s.written
+      go : (v : List Gate) → w ≡ s.done ++ v → rest ≡ encoded v → WritesWord w old new
+      go [] p q = word_as s.written (sym (p ∙ append-nil s.done))
       go (g ∷ v) p q = let (l, u) = digit_bounds g in absurd (omega arith)
 
-  pub full : length w ≤ i → Written w at old new (at + i)
+  pub full : old.at + length w ≤ new.at → WritesWord w old new
   full h = go s.left s.whole
     where
-      go : (v : List Gate) → w ≡ s.done ++ v → Written w at old new (at + i)
-      go [] p = subst (λ x. Written x at old new (at + i)) (sym (p ∙ append-nil s.done)) s.written
-      go (g ∷ v) p = let e : length w ≡ length s.done + length (g ∷ v) = ap length p ∙ length-append s.done (g ∷ v) in let t = taken in absurd (omega arith)
+      go : (v : List Gate) → w ≡ s.done ++ v → WritesWord w old new
+      go [] p = word_as s.written (sym (p ∙ append-nil s.done))
+      go (g ∷ v) p = let e : length w ≡ length s.done + length (g ∷ v) = ap length p ∙ length-append s.done (g ∷ v) in let t = s.written.written.next in absurd (omega arith)

@@ -5,7 +5,7 @@ use Prim.Native.Nat.{ℕ, ◌+◌}
 use native.Mathlib.Omega.{arith}
 use lib.ListN.{get_or}
 use Rattle.letter.specs.declared.Gate.{Gate}
-use Rattle.letter.specs.Laws.Written.{written_as, written_length, written_append}
+use Rattle.word_code.specs.Laws.Writer.{word_as, word_length, word_append}
 use Rattle.word.specs.Word.{part_words}
 use Rattle.word.specs.Laws.Word.{part_length}
 use Rattle.word_table.proofs.write_parts.Goals as goal
@@ -13,13 +13,13 @@ use Rattle.word_table.proofs.write_parts.Goals as goal
 abbrev word : ℕ → List Gate
 word part = get_or part_words part []
 
-pub write_code-requires : goal.write_code-requires
-write_code-requires c =
+pub write_code-requires-2 : goal.write_code-requires-2
+write_code-requires-2 c =
     let k = c.low_bits-first.result in
     let n = part_length k in
-    let one = c.write_code-next.ensures (word k) c.part_code.ensures (omega arith) in
-    let l = written_length one (omega (arith, c.requires)) in
-    let e = one.next in
+    let one = c.write_code.ensures (word k) c.part_code.ensures (omega arith) in
+    let l = word_length one (omega (arith, c.requires)) in
+    let e = one.written.next in
     omega (arith, c.requires)
 
 pub returns : goal.returns
@@ -27,6 +27,6 @@ returns c =
     let j = c.low_bits-first.result in
     let k = 8 + c.low_bits-second.result in
     let n = part_length j in
-    written_as
+    word_as
+    (word_append (c.write_code.ensures (word j) c.part_code.ensures (omega arith)) (omega (arith, c.requires)) (c.write_code-2.ensures (word k) c.part_code-2.ensures (omega (arith, part_length k))))
     (ap₂ (λ i j. word i ++ word (8 + j)) c.low_bits-first.ensures.0 c.low_bits-second.ensures.0)
-    (written_append (c.write_code-next.ensures (word j) c.part_code.ensures (omega arith)) (omega (arith, c.requires)) (c.write_code.ensures (word k) c.part_code-2.ensures (omega (arith, part_length k))))

@@ -6,7 +6,7 @@ use Prim.Native.Nat.{ℕ}
 use native.Mathlib.Omega.{arith}
 use lib.ListN.{get_or}
 use Rattle.letter.specs.declared.Gate.{Gate}
-use Rattle.letter.specs.Laws.Written.{written_as, written_length, written_append}
+use Rattle.word_code.specs.Laws.Writer.{word_as, word_length, word_append}
 use Rattle.word.specs.Word.{rotation_words, on_qubit}
 use Rattle.word.specs.Laws.Word.{rotation_length}
 use Rattle.word_table.proofs.write_rotations.Goals as goal
@@ -17,13 +17,13 @@ first row = on_qubit false (get_or rotation_words row [])
 abbrev second : ℕ → List Gate
 second row = on_qubit true (get_or rotation_words row [])
 
-pub write_code-requires : goal.write_code-requires
-write_code-requires c =
+pub write_code-requires-2 : goal.write_code-requires-2
+write_code-requires-2 c =
     let k = c.rotation_row-first.result in
     let n = rotation_length false k in
-    let one = c.write_code-next.ensures (first k) c.rotation_code.ensures (omega arith) in
-    let l = written_length one (omega (arith, c.requires)) in
-    let e = one.next in
+    let one = c.write_code.ensures (first k) c.rotation_code.ensures (omega arith) in
+    let l = word_length one (omega (arith, c.requires)) in
+    let e = one.written.next in
     omega (arith, c.requires)
 
 pub returns : goal.returns
@@ -31,6 +31,6 @@ returns c =
     let j = c.rotation_row-first.result in
     let k = c.rotation_row-second.result in
     let n = rotation_length false j in
-    written_as
+    word_as
+    (word_append (c.write_code.ensures (first j) c.rotation_code.ensures (omega arith)) (omega (arith, c.requires)) (c.write_code-2.ensures (second k) c.second_rotation_code.ensures (omega (arith, rotation_length true k))))
     (ap₂ (λ i j. first i ++ second j) c.rotation_row-first.ensures.0 c.rotation_row-second.ensures.0)
-    (written_append (c.write_code-next.ensures (first j) c.rotation_code.ensures (omega arith)) (omega (arith, c.requires)) (c.write_code.ensures (second k) c.rotation_code-2.ensures (omega (arith, rotation_length true k))))
