@@ -16,6 +16,7 @@ ghost use Rattle.gate.specs.Reading.{ReadAs, read_from};
 ghost use Rattle.gate.specs.Stretch.{composed_letter, EndsStretch, StretchOf, times_columns, read_byte};
 ghost use Rattle.gate.specs.Promise.{ProductPromise};
 
+use letter::Gate;
 use matrix::Scaled;
 use refusal::Refusal;
 
@@ -23,7 +24,7 @@ use refusal::Refusal;
 fn compose_byte(columns: [u8; 6], b: u8) -> Option<[u8; 6]>
     ensures { result ≡ composed_letter columns (gate_of b) }
 {
-    let g = letter::gate_of(b)?;
+    let g = Gate::try_from(b).ok()?;
     if letter::is_cs(g) {
         return None;
     }

@@ -6,12 +6,11 @@
 ghost use Rattle.std.specs.Prelude.{List, map, ◌≡◌, ◌+◌, ◌*◌, ◌%◌, ◌^◌, ◌<◌};
 ghost use Rattle.letter.specs.declared.Gate.{Gate};
 ghost use Rattle.letter.specs.Gate.{letter};
-ghost use Rattle.unitary_file.specs.Reading.{unitary_in};
+ghost use Rattle.gaussian.specs.Gaussian.{gaussian};
+ghost use Rattle.unitary.specs.Unitary.{quotient, matrix_of};
 ghost use Rattle.omega.specs.Modular.{remainder, residue_of, Residues, first_column, undone, exponent_of, power_of};
 
-use gaussian::Gaussian;
 use letter::Gate;
-use unitary_file::Entries;
 
 // The powers of 14. The sixteenth is 1 again.
 const ROOT_POWERS: [u64; 16] = [1, 14, 9, 7, 13, 12, 15, 6, 16, 3, 8, 10, 4, 5, 2, 11];
@@ -34,18 +33,18 @@ fn remainder_of(x: i64) -> u64
 
 // The residue of an entry over root two to the power k.
 // Wrong, and refused: the real and the imaginary part exchanged; −i for i; root two left out.
-fn residue(k: u8, x: Gaussian) -> u64
-    ensures { result ≡ residue_of k x }
+fn residue(k: u8, re: i64, im: i64) -> u64
+    ensures { result ≡ residue_of k (gaussian re im) }
 {
-    root_power(k) * (remainder_of(x.re) + 4 * remainder_of(x.im)) % 17
+    root_power(k) * (remainder_of(re) + 4 * remainder_of(im)) % 17
 }
 
-// The first column of a unitary.
-// Wrong, and refused: the first row; the second column; the exponent left out.
-fn first_column(u: &Entries) -> [u64; 4]
-    ensures { result ≡ first_column (unitary_in u.now) }
+// The first column of the unitary (k, n).
+// Wrong, and refused: the first row; the second column.
+fn first_column(k: u8, n: [i64; 32]) -> [u64; 4]
+    ensures { result ≡ first_column (quotient k (matrix_of n)) }
 {
-    std::array::from_fn(|i| residue(u.exponent, u.entry(i, 0)))
+    std::array::from_fn(|i| residue(k, n[8 * i], n[8 * i + 1]))
 }
 
 // The sum of two residues over root two.
@@ -92,9 +91,9 @@ fn undo_letter(b: u8, v: [u64; 4]) -> [u64; 4]
     requires { Residues v }
     ensures { Residues result × ((g : Gate) → b ≡ letter g → result ≡ undone g v) }
 {
-    match letter::gate_of(b) {
-        Some(g) => undo(g, v),
-        None => v,
+    match Gate::try_from(b) {
+        Ok(g) => undo(g, v),
+        Err(_) => v,
     }
 }
 
@@ -116,13 +115,14 @@ fn exponent_of(x: u64) -> u8
     }
 }
 
-// The power of ω by which the letters give the unitary, where they give it by some power.
+// The power of ω by which the letters give the unitary (k, n), where they give it by some power.
+// The numbers may be any, where those of a `unitary_file::Entries` are small; so they come apart.
 // Wrong, and refused: the second half of the letters left out; every second letter left out; the first letter in place of each; the power read from place
-// 1.
-pub fn power_of(u: &Entries, letters: &[u8]) -> u8
-    ensures { (w : List Gate) → letters.now ≡ map letter w → result ≡ power_of (unitary_in u.now) w }
+// 1; the exponent k left out.
+pub fn power_of(k: u8, n: [i64; 32], letters: &[u8]) -> u8
+    ensures { (w : List Gate) → letters.now ≡ map letter w → result ≡ power_of (quotient k (matrix_of n)) w }
 {
-    let mut v = first_column(u);
+    let mut v = first_column(k, n);
     for b in letters {
         v = undo_letter(*b, v);
     }

@@ -75,10 +75,8 @@ fn text_length(letters: &[u8]) -> Result<usize, Refusal>
 {
     let mut n = FIRST_LENGTH;
     for i in (0..letters.len()).rev() {
-        match letter::gate_of(letters[i]) {
-            Some(g) => n += statement_length(g),
-            None => return Err(Refusal::Letter),
-        }
+        let g = Gate::try_from(letters[i])?;
+        n += statement_length(g);
     }
     Ok(n)
 }
@@ -88,7 +86,7 @@ fn write_letter(b: u8, w: &mut Writer<'_>)
     requires { Room (line_of (gate_of b)) w.old }
     ensures { Writes (line_of (gate_of b)) w.old w.new }
 {
-    if let Some(g) = letter::gate_of(b) {
+    if let Ok(g) = Gate::try_from(b) {
         write_statement(g, w);
     }
 }

@@ -140,7 +140,7 @@ fn write_letters(text: &[u8], at: usize, count: usize, out: &mut [u8])
         match statement_at(text, next) {
             Some(statement) => {
                 left -= 1;
-                out[left] = letter::letter_of(statement.gate);
+                out[left] = u8::from(statement.gate);
                 next = statement.end;
             }
             None => return,

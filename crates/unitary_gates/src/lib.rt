@@ -30,7 +30,7 @@ pub fn unitary_to_gates(bytes: &[u8], out: &mut [u8]) -> Result<Synthesis, Refus
         return Err(Refusal::Buffer);
     }
     let list = gate_list::write_list(&cut, out);
-    let power = omega::power_of(&read, &out[..list.letters]);
+    let power = omega::power_of(read.exponent, read.entries, &out[..list.letters]);
     Ok(Synthesis {
         count: cut.count,
         letters: list.letters,

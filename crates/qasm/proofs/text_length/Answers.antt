@@ -5,8 +5,10 @@ use Prim.Native.Nat.{ℕ, ◌+◌, ◌-◌, ◌≤◌, ◌<◌}
 use native.Mathlib.Omega.{arith}
 use lib.ListN.{length, get_or, drop, length-append}
 use lib.Seq.{drop-length}
+use Rattle.std.proofs.lemmas.Result.{err_from_is_err_and}
 use Rattle.letter.specs.declared.Gate.{Gate}
 use Rattle.letter.specs.Gate.{gate_of}
+use Rattle.letter.specs.Laws.Gate.{converted, not_converted}
 use Rattle.gate.specs.Reading.{gates}
 use Rattle.qasm.specs.Text.{first_lines, statement as line, body, text_of, first_length}
 use Rattle.qasm.specs.Reading.{before, letters_of}
@@ -58,8 +60,10 @@ loop-i-init c = start _
 
 pub loop-i-preserved : goal.loop-i-preserved
 loop-i-preserved c =
-    turn _ _ _ c.loop-i.invariant (omega arith) (omega arith) _ _ (sym c.gate_of.ensures ∙ c.in-Some.is) c.statement_length-n.ensures
+    turn _ _ _ c.loop-i.invariant (omega arith) (omega arith) _ _ (converted _ _ c.in_ok-g.ensures) c.statement_length-n.ensures
 
-pub returns-in-None : goal.returns-in-None
-returns-in-None c =
-    unknown _ _ _ c.loop-i.invariant (omega arith) (omega arith) (sym c.gate_of.ensures ∙ c.in-None.is)
+pub returns-in_err-g : goal.returns-in_err-g
+returns-in_err-g c =
+    let p = err_from_is_err_and c.from_residual.result c.from_residual.ensures.1 in
+    let n = not_converted _ _ c.in_err-g.ensures in
+    rw (p.1, p.2, n.1) (unknown _ _ _ c.loop-i.invariant (omega arith) (omega arith) n.0)
