@@ -1,18 +1,18 @@
 // Lists the short sheets: those of count 0, 1 and 2 whose Clifford is the identity and whose last byte is 0, a line for each on standard output.
-//
-// A function that writes takes the place where it begins and returns the place after what it wrote; the other bytes stay.
 
 #![tactic(auto)]
 
 ghost use Rattle.std.specs.Prelude.{◌≡◌, ◌+◌, ◌≤◌, eqb, length};
 ghost use Rattle.io.specs.Counts.{IsPrefixLen};
 ghost use Rattle.file.specs.File.{Appended};
+ghost use Rattle.text.specs.Writer.{Writes};
 ghost use Rattle.sheet_bytes.specs.Bytes.{shortest};
 ghost use Rattle.sheet_bytes.specs.Sheet.{sheet_refusal};
 ghost use Rattle.short_sheet.specs.Short.{if_read, plain_sheets};
 ghost use Rattle.list_short.specs.Output.{lines_of, pairs_of, short_text};
 
 use std::io::Result;
+use text::Writer;
 
 // Whether these bytes are read as a sheet.
 fn is_read(sheet: &[u8]) -> bool
@@ -23,60 +23,55 @@ fn is_read(sheet: &[u8]) -> bool
 }
 
 // The line of a sheet of at most two numbers, if it is read: at most ten bytes.
-fn write_entry(sheet: &[u8], out: &mut [u8], at: usize) -> usize
-    requires { (shortest ≤ length sheet.now) × (length sheet.now ≤ shortest + 2) × (at + 10 ≤ length out.old) }
-    ensures { Appended (lines_of (if_read sheet.now)) at out.old out.new result }
+fn write_entry(sheet: &[u8], w: &mut Writer<'_>)
+    requires { (shortest ≤ length sheet.now) × (length sheet.now ≤ shortest + 2) × (w.old.at + 10 ≤ length w.old.out.now) }
+    ensures { Writes (lines_of (if_read sheet.now)) w.old w.new }
 {
     if is_read(sheet) {
         let count = sheet.len() - sheet_bytes::SHORTEST;
-        return text::write_line(&[b'0' + count as u8], &sheet[1..count + 1], out, at);
+        w.line(&[b'0' + count as u8], &sheet[1..count + 1]);
     }
-    at
 }
 
 // The lines of the sheets of one number.
-fn write_ones(out: &mut [u8], at: usize) -> usize
-    requires { at + 150 ≤ length out.old }
-    ensures { Appended (lines_of (plain_sheets 1)) at out.old out.new result }
+fn write_ones(w: &mut Writer<'_>)
+    requires { w.old.at + 150 ≤ length w.old.out.now }
+    ensures { Writes (lines_of (plain_sheets 1)) w.old w.new }
 {
-    let mut end = at;
     for g in 1u8..=15 {
-        end = write_entry(&[65, g, 1, 2, 3, 4, 5, 6, 0], out, end);
+        write_entry(&[65, g, 1, 2, 3, 4, 5, 6, 0], w);
     }
-    end
 }
 
 // The lines of the sheets of two numbers of which g is the first.
-fn write_pairs(g: u8, out: &mut [u8], at: usize) -> usize
-    requires { at + 150 ≤ length out.old }
-    ensures { Appended (lines_of (pairs_of g)) at out.old out.new result }
+fn write_pairs(g: u8, w: &mut Writer<'_>)
+    requires { w.old.at + 150 ≤ length w.old.out.now }
+    ensures { Writes (lines_of (pairs_of g)) w.old w.new }
 {
-    let mut end = at;
     for h in 1u8..=15 {
-        end = write_entry(&[66, g, h, 1, 2, 3, 4, 5, 6, 0], out, end);
+        write_entry(&[66, g, h, 1, 2, 3, 4, 5, 6, 0], w);
     }
-    end
 }
 
 // The lines of the sheets of two numbers.
-fn write_twos(out: &mut [u8], at: usize) -> usize
-    requires { at + 2250 ≤ length out.old }
-    ensures { Appended (lines_of (plain_sheets 2)) at out.old out.new result }
+fn write_twos(w: &mut Writer<'_>)
+    requires { w.old.at + 2250 ≤ length w.old.out.now }
+    ensures { Writes (lines_of (plain_sheets 2)) w.old w.new }
 {
-    let mut end = at;
     for g in 1u8..=15 {
-        end = write_pairs(g, out, end);
+        write_pairs(g, w);
     }
-    end
 }
 
 // The text, at the front of `out`.
 fn answer(out: &mut [u8; 4096]) -> usize
     ensures { Appended short_text 0 out.old out.new result × IsPrefixLen result out.new }
 {
-    let second = write_entry(&[64, 1, 2, 3, 4, 5, 6, 0], out, 0);
-    let third = write_ones(out, second);
-    write_twos(out, third)
+    let mut w = Writer::new(out);
+    write_entry(&[64, 1, 2, 3, 4, 5, 6, 0], &mut w);
+    write_ones(&mut w);
+    write_twos(&mut w);
+    w.at
 }
 
 fn main(rt: HostRuntime) -> Result<()> {

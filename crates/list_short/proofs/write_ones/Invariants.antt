@@ -4,4 +4,4 @@ use Rattle.list_short.specs.Laws.Output.{one_of}
 use Rattle.list_short.proofs.write_ones.Given as goal
 
 abbrev pub invariant-loop-g : goal.invariant-loop-g
-invariant-loop-g l = Begun one_of l.at l.initial.out l.g l.out l.end
+invariant-loop-g l = Begun one_of l.initial.w l.g l.w

@@ -4,4 +4,4 @@ use Rattle.list_short.specs.Laws.Output.{pair_of}
 use Rattle.list_short.proofs.write_pairs.Given as goal
 
 abbrev pub invariant-loop-h : goal.invariant-loop-h
-invariant-loop-h l = Begun (pair_of l.g) l.at l.initial.out l.h l.out l.end
+invariant-loop-h l = Begun (pair_of l.g) l.initial.w l.h l.w

@@ -4,4 +4,4 @@ use Rattle.list_short.specs.Laws.Loop.{Begun}
 use Rattle.list_short.proofs.write_twos.Given as goal
 
 abbrev pub invariant-loop-g : goal.invariant-loop-g
-invariant-loop-g l = Begun pairs_of l.at l.initial.out l.g l.out l.end
+invariant-loop-g l = Begun pairs_of l.initial.w l.g l.w

@@ -7,8 +7,9 @@ use Prim.Native.Nat.{ℕ, zero, suc, ◌+◌, ◌*◌, ◌-◌, ◌≤◌, ◌<�
 use native.Mathlib.Omega.{arith}
 use Rattle.std.proofs.Math.ListN.{length, length-append}
 use Rattle.matrix.specs.Range.{tabulate}
-use Rattle.file.specs.File.{Appended}
-use Rattle.file.specs.Laws.Written.{appended_as, appended_none, appended_length, appended_append}
+use Rattle.text.specs.Writer.{Writes}
+use Rattle.text.specs.declared.Writer.{Writer}
+use Rattle.text.specs.Laws.Writer.{writes_none, writes_as, room_after, writes_append}
 use Rattle.list_short.specs.Output.{short_line, lines_of}
 
 -- ---- lists put together
@@ -68,39 +69,31 @@ module _ (F : ℕ → List (List ℕ)) where
 
 -- ---- the loop
 
--- the numbers below g are done: their lines stand in the buffer from `at` on
-pub record Begun (F : ℕ → List (List ℕ)) (at : ℕ) (old : List ℕ) (g : ℕ) (new : List ℕ) (end : ℕ) : Type 0 where
+-- the numbers below g are done: their lines are written
+pub record Begun (F : ℕ → List (List ℕ)) (old : Writer) (g : ℕ) (new : Writer) : Type 0 where
   pub from : 1 ≤ g
   pub most : g ≤ 16
-  pub long : length new ≡ length old
-  pub lines : Appended (lines_below F g) at old new end
+  pub lines : Writes (lines_below F g) old new
 
-pub begun_none : (F : ℕ → List (List ℕ)) (at : ℕ) (old : List ℕ) → Begun F at old 1 old at
-begun_none F at old = record { from = omega arith; most = omega arith; long = refl; lines = appended_as (none_below F) (appended_none at old) }
+pub begun_none : (F : ℕ → List (List ℕ)) (w : Writer) → Begun F w 1 w
+begun_none F w = record { from = omega arith; most = omega arith; lines = writes_as (writes_none w) (none_below F) }
 
 -- one number more, where each has at most b bytes
-module _ {F : ℕ → List (List ℕ)} {at : ℕ} {old : List ℕ} (b : ℕ) (m : (g : ℕ) → length (lines_of (F g)) ≤ b) (r : at + 15 * b ≤ length old) {g : ℕ} (h : g ≤ 15) {new : List ℕ} {end : ℕ} (s : Begun F at old g new end) where
-  fits : at + length (lines_below F g) + b ≤ length old
+module _ {F : ℕ → List (List ℕ)} {old new : Writer} (b : ℕ) (m : (g : ℕ) → length (lines_of (F g)) ≤ b) (r : old.at + 15 * b ≤ length old.out.now) {g : ℕ} (h : g ≤ 15) (s : Begun F old g new) where
+  fits : old.at + length (lines_below F g) + b ≤ length old.out.now
   fits =
       let l = below_most F b m g in
       let u : (g - 1) * b ≤ 14 * b = mul-le-mul_right b (omega arith) in
       omega arith
 
-  pub begun_room : end + b ≤ length new
-  begun_room = let f = fits in let e = s.lines.next in let l = s.long in omega arith
+  pub begun_room : new.at + b ≤ length new.out.now
+  begun_room = room_after s.lines b fits
 
-  pub begun_next : {last : List ℕ} {next : ℕ} → Appended (lines_of (F g)) end new last next → Begun F at old (g + 1) last next
+  pub begun_next : {last : Writer} → Writes (lines_of (F g)) new last → Begun F old (g + 1) last
   begun_next a =
       let f = fits in
-      let k = m g in
-      let q = begun_room in
-      record {
-        from = omega arith;
-        most = omega arith;
-        long = appended_length a (omega arith) ∙ s.long;
-        lines = appended_as (next_below F g s.from) (appended_append s.lines (omega arith) a);
-      }
+      record { from = omega arith; most = omega arith; lines = writes_as (writes_append s.lines (omega arith) a) (next_below F g s.from) }
 
 -- after the last number
-pub begun_all : {F : ℕ → List (List ℕ)} {at : ℕ} {old : List ℕ} {g : ℕ} {new : List ℕ} {end : ℕ} → Begun F at old g new end → 15 < g → Appended (lines_below F 16) at old new end
-begun_all {F} {at} {old} {g} {new} {end} s h = let u = s.most in let e : g ≡ 16 = omega arith in subst (λ x. Appended (lines_below F x) at old new end) e s.lines
+pub begun_all : {F : ℕ → List (List ℕ)} {old new : Writer} {g : ℕ} → Begun F old g new → 15 < g → Writes (lines_below F 16) old new
+begun_all {F} {old} {new} {g} s h = let u = s.most in let e : g ≡ 16 = omega arith in subst (λ x. Writes (lines_below F x) old new) e s.lines
