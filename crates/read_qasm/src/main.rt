@@ -66,7 +66,8 @@ fn take_in(more: &[u8], buffer: &mut [u8], left: usize) -> usize
     requires { left + length more.now ≤ length buffer.old }
     ensures { (length buffer.new ≡ length buffer.old) × LeftOf (take left buffer.old ++ more.now) buffer.new result }
 {
-    let end = text::write_bytes(more, buffer, left);
+    let end = left + more.len();
+    buffer[left..end].copy_from_slice(more);
     drop_statements(buffer, end)
 }
 

@@ -3,6 +3,7 @@
 #![tactic(auto)]
 
 use std::io::Result;
+use text::Writer;
 
 // A gate list, by its text.
 fn letters_case(rt: &impl Print, name: &[u8], letters: &[u8]) -> Result<()> {
@@ -38,8 +39,10 @@ fn lines_case(rt: &impl Print, name: &[u8], lines: &[u8]) -> Result<()> {
     if 64 < lines.len() {
         return Ok(());
     }
-    let at = text::write_bytes(&qasm::FIRST_LINES, &mut text, 0);
-    let end = text::write_bytes(lines, &mut text, at);
+    let mut w = Writer::new(&mut text);
+    w.bytes(&qasm::FIRST_LINES);
+    w.bytes(lines);
+    let end = w.at;
     text_case(rt, name, &text[..end])
 }
 
