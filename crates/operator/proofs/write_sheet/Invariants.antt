@@ -1,6 +1,6 @@
 -- The invariant: the bytes before n are those of the sheet.
 use mathlib.Core.Path.{◌≡◌}
-use Prim.Native.Nat.{ℕ, ◌+◌, ◌-◌}
+use Prim.Native.Nat.{ℕ, ◌+◌}
 use mathlib.Core.List.{List}
 use lib.ListN.{get_or, take}
 use Rattle.matrix.specs.Laws.Range.{Filled}

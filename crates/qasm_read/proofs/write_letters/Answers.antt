@@ -28,7 +28,7 @@ loop-next-init c =
 pub loop-next-preserved : goal.loop-next-preserved
 loop-next-preserved c =
     let s = c.in-Some.ensures in
-    turn _ _ _ _ _ _ c.loop-next.invariant _ _ s (fits c.args.text.now c.args.out.now c.args.at c.args.count c.requires) c.letter_of.ensures
+    turn _ _ _ _ _ _ c.loop-next.invariant _ _ s (fits c.args.text.now c.args.out.now c.args.at c.args.count c.requires) c.from.ensures
 
 pub returns-in-None : goal.returns-in-None
 returns-in-None c =
