@@ -17,7 +17,6 @@ pub cut_orthogonal-cut-requires : goal.cut_orthogonal-cut-requires
 cut_orthogonal-cut-requires c =
     let e = c.in_ok-read.ensures in
     let f = c.form_of-form in
-    let l = c.in_ok-read.read.in_range in
     let m = f.ensures.small in
     (omega arith, computed_orthogonal _ (is_unitary_lem _ [] _ e) f.result f.ensures)
 
@@ -33,8 +32,6 @@ write_list-list-requires c =
     let f = c.form_of-form in
     let t = c.cut_orthogonal-cut in
     let h = held _ (is_unitary_lem _ [] _ e) f.result f.ensures t.result t.ensures in
-    let l = c.in_ok-read.read.in_range in
-    let m = h.small in
     (h.numbers, h.columns, omega arith)
 
 pub returns : goal.returns
