@@ -126,7 +126,6 @@ fn form_entries(u: &Entries) -> [Gaussian; 36]
 }
 
 // Their real parts.
-// Wrong, and refused: the imaginary parts.
 fn real_parts(entries: &[Gaussian; 36]) -> [i64; 36]
     ensures { result ≡ real_parts entries.now }
 {

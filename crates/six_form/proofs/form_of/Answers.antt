@@ -35,13 +35,13 @@ module _ (U : Quotient) (o : Unitary U) (r : List Gaussian) (p : r ≡ form_entr
 
 pub returns-then-is_imaginary : goal.returns-then-is_imaginary
 returns-then-is_imaginary c =
-    imaginary (unitary_in c.args.u.now) c.requires _ c.form_entries-entries.ensures c.imaginary_parts.ensures (sym c.is_imaginary.ensures ∙ c.if-is_imaginary.true)
+    imaginary (unitary_in c.args.u.now) c.requires _ c.form_entries-entries.ensures (cc) (sym c.is_imaginary.ensures ∙ c.if-is_imaginary.true)
 
 pub returns-then-is_real : goal.returns-then-is_real
 returns-then-is_real c =
-    whole (unitary_in c.args.u.now) c.requires _ c.form_entries-entries.ensures c.real_parts.ensures (sym c.is_real.ensures ∙ c.if-is_real.true)
+    whole (unitary_in c.args.u.now) c.requires _ c.form_entries-entries.ensures (cc) (sym c.is_real.ensures ∙ c.if-is_real.true)
 
 pub returns : goal.returns
 returns c =
-    diagonal (unitary_in c.args.u.now) c.requires _ c.form_entries-entries.ensures c.real_parts-2.ensures
+    diagonal (unitary_in c.args.u.now) c.requires _ c.form_entries-entries.ensures (cc)
     (sym c.is_imaginary.ensures ∙ c.if-is_imaginary.false) (sym c.is_real.ensures ∙ c.if-is_real.false)
