@@ -3,7 +3,7 @@
 
 #![tactic(auto)]
 
-ghost use Rattle.std.specs.Prelude.{◌≡◌, ◌<◌, ◌≤◌, ◌^◌, pos, nat_abs, length, get_or};
+ghost use Rattle.std.specs.Prelude.{◌≡◌, ◌<◌, ◌≤◌, ◌^◌, pos, nat_abs, get_or};
 ghost use Rattle.matrix.specs.Integer.{parity};
 ghost use Rattle.matrix.specs.Matrix.{entry, listed, row_product};
 ghost use Rattle.matrix.specs.Array.{Bounded, row_mask, before_odd, halved, half_sums, half_pair, least_form};
@@ -37,7 +37,6 @@ pub fn before_odd(m: &[i64; 36]) -> usize
 
 // Every entry halved.
 pub fn halve(m: &mut [i64; 36])
-    requires { length m.old ≡ 36 }
     ensures { m.new ≡ listed (halved (entry m.old)) }
 {
     for x in m.iter_mut() {
@@ -67,7 +66,6 @@ pub struct Scaled {
 // The operator brought to its least exponent, in place: most operators are there already, and none is copied. By value it is slower.
 // Wrong, and refused: an exponent lower by one for each halving; an operator halved whose last entry is odd.
 pub fn least_form(operator: &mut Scaled)
-    requires { length operator.old.matrix ≡ 36 }
     ensures { operator.new ≡ least_form operator.old.exponent operator.old.matrix }
 {
     while 2 <= operator.exponent && before_odd(&operator.matrix) == 36 {
@@ -78,7 +76,7 @@ pub fn least_form(operator: &mut Scaled)
 
 // The entries x at p and y at q replaced by half of x + y and half of y - x.
 fn half_pair(m: &mut [i64; 36], p: usize, q: usize)
-    requires { (p < 36) × (q < 36) × (length m.old ≡ 36) × (nat_abs (get_or m.old p (pos 0)) ≤ 2 ^ 30) × (nat_abs (get_or m.old q (pos 0)) ≤ 2 ^ 30) }
+    requires { (p < 36) × (q < 36) × (nat_abs (get_or m.old p (pos 0)) ≤ 2 ^ 30) × (nat_abs (get_or m.old q (pos 0)) ≤ 2 ^ 30) }
     ensures { m.new ≡ half_pair p q m.old }
 {
     let x = m[p];
@@ -89,7 +87,7 @@ fn half_pair(m: &mut [i64; 36], p: usize, q: usize)
 
 // Rows i and j replaced by half of their sum and half of their difference, row j less row i.
 pub fn half_sums(m: &mut [i64; 36], i: usize, j: usize)
-    requires { (i < j) × (j < 6) × (length m.old ≡ 36) × Bounded (2 ^ 30) (entry m.old) }
+    requires { (i < j) × (j < 6) × Bounded (2 ^ 30) (entry m.old) }
     ensures { m.new ≡ listed (half_sums i j (entry m.old)) }
 {
     for c in 0..6 {

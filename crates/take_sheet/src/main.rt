@@ -44,6 +44,7 @@ fn answer(bundle: &[u8], number: &[u8], out: &mut [u8; 256]) -> usize
 }
 
 // One byte more: the last byte moves one place to the front, and the new one takes its place.
+// Each function asks for two bytes in a clause: with an array of `LONGER` bytes as the type, each loop's invariant would have to say its length again.
 fn push(b: u8, bytes: &mut [u8])
     requires { 2 ≤ length bytes.old }
     ensures { (length bytes.new ≡ length bytes.old) × (last_two bytes.new ≡ last_two (bytes.old ++ b ∷ [])) }

@@ -2,7 +2,7 @@
 
 #![tactic(auto)]
 
-ghost use Rattle.std.specs.Prelude.{◌≡◌, true, ℕ, ◌^◌, ◌≤◌, ◌<◌, length, get_or};
+ghost use Rattle.std.specs.Prelude.{◌≡◌, true, ℕ, ◌^◌, ◌≤◌, ◌<◌, get_or};
 ghost use Rattle.matrix.specs.Matrix.{δ, entry, listed, product, replaced};
 ghost use Rattle.matrix.specs.Array.{Bounded};
 ghost use Rattle.clifford.specs.Columns.{columns_matrix, is_column_byte, are_permutation};
@@ -44,7 +44,7 @@ fn pair_entry(m: &[i64; 36], r: usize, c: usize, p: usize) -> i64
 
 // Row r of the product with a generator, into `out`.
 fn pair_row(m: &[i64; 36], r: usize, partners: [usize; 6], out: &mut [i64; 36])
-    requires { (r < 6) × ((c : ℕ) → c < 6 → get_or partners c 0 < 6) × Bounded (2 ^ 30) (entry m.now) × (length out.old ≡ 36) }
+    requires { (r < 6) × ((c : ℕ) → c < 6 → get_or partners c 0 < 6) × Bounded (2 ^ 30) (entry m.now) }
     ensures { out.new ≡ listed (replaced r (λ c. pair_entry (entry m.now) r c (get_or partners c 0)) (entry out.old)) }
 {
     for c in 0..6 {
@@ -94,7 +94,7 @@ fn signed_entry(m: &[i64; 36], r: usize, b: u8) -> i64
 
 // Row r of the product with a Clifford, into `out`.
 fn signed_row(m: &[i64; 36], r: usize, columns: [u8; 6], out: &mut [i64; 36])
-    requires { (r < 6) × (are_permutation columns ≡ true) × Bounded (2 ^ 30) (entry m.now) × (length out.old ≡ 36) }
+    requires { (r < 6) × (are_permutation columns ≡ true) × Bounded (2 ^ 30) (entry m.now) }
     ensures { out.new ≡ listed (replaced r (λ c. signed_entry (entry m.now) r (get_or columns c 0)) (entry out.old)) }
 {
     for c in 0..6 {

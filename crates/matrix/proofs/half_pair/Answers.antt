@@ -17,10 +17,10 @@ abbrev y : goal.After-y-1 → ℤ
 y c = let a = c.args in get_or a.m.now a.q (pos 0)
 
 plus : (c : goal.After-y-1) → Sized (2 ^ 31) (to_z w64 (of_z w64 (x c)) +ℤ to_z w64 (of_z w64 (y c))) (x c +ℤ y c)
-plus c = let p = c.requires in add (stored (x c) p.3 (lit< tt)) (stored (y c) p.4 (lit< tt))
+plus c = let p = c.requires in add (stored (x c) p.2 (lit< tt)) (stored (y c) p.3 (lit< tt))
 
 minus : (c : goal.After-y-1) → Sized (2 ^ 31) (to_z w64 (of_z w64 (y c)) -ℤ to_z w64 (of_z w64 (x c))) (y c -ℤ x c)
-minus c = let p = c.requires in sub (stored (y c) p.4 (lit< tt)) (stored (x c) p.3 (lit< tt))
+minus c = let p = c.requires in sub (stored (y c) p.3 (lit< tt)) (stored (x c) p.2 (lit< tt))
 
 pub returns : goal.returns
 returns c =

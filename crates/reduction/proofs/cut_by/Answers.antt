@@ -4,11 +4,11 @@ use mathlib.Core.Path.{◌≡◌, ap, ap₂, ◌∙◌}
 use Prim.Native.Nat.{ℕ, ◌+◌, ◌*◌, ◌^◌, ◌<◌, ◌≤◌}
 use native.Mathlib.Omega.{arith}
 use lib.IntN.{ℤ}
-use lib.ListN.{length, get_or}
+use lib.ListN.{get_or}
 use Rattle.matrix.specs.Matrix.{Matrix, Same, entry, listed}
 use Rattle.matrix.specs.Array.{Bounded, half_sums}
 use Rattle.matrix.specs.Laws.Matrix.{same_refl}
-use Rattle.matrix.specs.Laws.Array.{entry_listed, length_listed, listed_cong, half_sums_cong, bounded_listed, bounded_half_sums}
+use Rattle.matrix.specs.Laws.Array.{entry_listed, listed_cong, half_sums_cong, bounded_listed, bounded_half_sums}
 use Rattle.residue.specs.Generator.{pair_rows, low, high}
 use Rattle.residue.specs.Laws.Table.{row_at_lem}
 use Rattle.residue.specs.Laws.Generator.{low_high, low_six, high_six, low_not_high}
@@ -33,9 +33,6 @@ module _ (g : ℕ) (l : 1 ≤ g) (u : g ≤ 15) (ps : List ℕ) (q : ps ≡ pair
     cut_is : r ≡ listed (half_sums (low g p) (high g p) (entry m))
     cut_is = d ∙ ap₂ (λ i j. listed (half_sums i j (entry m))) low_at high_at
 
-    long : length r ≡ 36
-    long = ap length d ∙ length_listed _
-
     bounded : Bounded (2 ^ 30) (entry m) → Bounded (2 ^ 30) (entry r)
     bounded s = rw cut_is (bounded_listed (2 ^ 30) _ (bounded_half_sums (2 ^ 30) (low g p) (high g p) (entry m) (low_six g l u p h) (high_six g l u p h) (low_not_high g l u p h) s))
 
@@ -49,7 +46,7 @@ pub half_sums-requires : goal.half_sums-requires
 half_sums-requires c =
     let p = c.requires in
     let k = c.pairs_of-pairs in
-    (in_order c.args.g p.0 p.1 k.result k.ensures 2 (omega arith), inside c.args.g p.0 p.1 k.result k.ensures 2 (omega arith), (omega arith), p.2)
+    (in_order c.args.g p.0 p.1 k.result k.ensures 2 (omega arith), inside c.args.g p.0 p.1 k.result k.ensures 2 (omega arith), p.2)
 
 pub half_sums-requires-2 : goal.half_sums-requires-2
 half_sums-requires-2 c =
@@ -57,7 +54,7 @@ half_sums-requires-2 c =
     let g = c.args.g in
     let k = c.pairs_of-pairs in
     let f = c.half_sums in
-    (in_order g p.0 p.1 k.result k.ensures 1 (omega arith), inside g p.0 p.1 k.result k.ensures 1 (omega arith), long g p.0 p.1 k.result k.ensures 2 (omega arith) c.args.m f.new.m f.ensures, bounded g p.0 p.1 k.result k.ensures 2 (omega arith) c.args.m f.new.m f.ensures p.2)
+    (in_order g p.0 p.1 k.result k.ensures 1 (omega arith), inside g p.0 p.1 k.result k.ensures 1 (omega arith), bounded g p.0 p.1 k.result k.ensures 2 (omega arith) c.args.m f.new.m f.ensures p.2)
 
 pub half_sums-requires-3 : goal.half_sums-requires-3
 half_sums-requires-3 c =
@@ -67,7 +64,7 @@ half_sums-requires-3 c =
     let f = c.half_sums in
     let h = c.half_sums-2 in
     let b = bounded g p.0 p.1 k.result k.ensures 2 (omega arith) c.args.m f.new.m f.ensures p.2 in
-    (in_order g p.0 p.1 k.result k.ensures 0 (omega arith), inside g p.0 p.1 k.result k.ensures 0 (omega arith), long g p.0 p.1 k.result k.ensures 1 (omega arith) f.new.m h.new.m h.ensures, bounded g p.0 p.1 k.result k.ensures 1 (omega arith) f.new.m h.new.m h.ensures b)
+    (in_order g p.0 p.1 k.result k.ensures 0 (omega arith), inside g p.0 p.1 k.result k.ensures 0 (omega arith), bounded g p.0 p.1 k.result k.ensures 1 (omega arith) f.new.m h.new.m h.ensures b)
 
 pub returns : goal.returns
 returns c =
