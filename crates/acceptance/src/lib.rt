@@ -6,8 +6,7 @@ ghost use Rattle.std.specs.Prelude.{◌≤◌, ◌^◌};
 ghost use Rattle.refusal.specs.Refusal.{numbered};
 ghost use Rattle.matrix.specs.Matrix.{entry};
 ghost use Rattle.matrix.specs.Operator.{Orthogonal};
-ghost use Rattle.matrix.specs.Array.{Bounded};
-ghost use Rattle.matrix.specs.Laws.Array.{operator_of};
+ghost use Rattle.matrix.specs.Array.{Bounded, operator_of};
 ghost use Rattle.acceptance.specs.Acceptance.{entries_refusal};
 ghost use Rattle.acceptance.specs.Cutting.{CutFrom, CutAs, CutOf};
 

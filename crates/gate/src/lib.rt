@@ -8,7 +8,7 @@
 ghost use Rattle.std.specs.Prelude.{◌≡◌, true, [], ◌≤◌, length};
 ghost use Rattle.refusal.specs.Refusal.{numbered};
 ghost use Rattle.matrix.specs.Operator.{Orthogonal};
-ghost use Rattle.matrix.specs.Laws.Array.{operator_of};
+ghost use Rattle.matrix.specs.Array.{operator_of};
 ghost use Rattle.clifford.specs.Columns.{are_permutation};
 ghost use Rattle.file.specs.File.{largest_exponent};
 ghost use Rattle.letter.specs.Gate.{gate_of};

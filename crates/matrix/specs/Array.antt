@@ -4,6 +4,7 @@ use Rattle.std.specs.Int.Signed.{le_z}
 use Rattle.matrix.specs.Range.{every, first_from, bits, total}
 use Rattle.matrix.specs.Integer.{parity, half, equals}
 use Rattle.matrix.specs.Matrix.{Matrix, δ, replaced, row_product, entry, listed}
+use Rattle.matrix.specs.Operator.{Operator, operator}
 use Rattle.matrix.specs.declared.Scaled.{Scaled}
 
 -- no entry is larger than b, in size: what rules out overflow
@@ -59,6 +60,10 @@ half_pair p q m =
 abbrev pub choose : {A : Type 0} → Bool → A → A → A
 choose true x y = x
 choose false x y = y
+
+-- the operator that an exponent and an array of 36 numbers stand for
+abbrev pub operator_of : Scaled → Operator
+operator_of l = operator l.exponent (entry l.matrix)
 
 -- an exponent and an array of 36 numbers, as `least_form` gives them
 abbrev pub least : ℕ → List ℤ → Scaled

@@ -5,8 +5,7 @@
 ghost use Rattle.std.specs.Prelude.{◌≡◌, ◌≤◌, ◌^◌};
 ghost use Rattle.matrix.specs.Matrix.{entry, listed};
 ghost use Rattle.matrix.specs.Operator.{Orthogonal, Reduced};
-ghost use Rattle.matrix.specs.Array.{Bounded};
-ghost use Rattle.matrix.specs.Laws.Array.{operator_of};
+ghost use Rattle.matrix.specs.Array.{Bounded, operator_of};
 ghost use Rattle.reduction.specs.Reduction.{cut};
 ghost use Rattle.reduction.specs.Result.{Cuttable, StepOf, Whole, WholeOf};
 

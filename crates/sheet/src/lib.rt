@@ -7,7 +7,7 @@ ghost use Rattle.refusal.specs.Refusal.{numbered};
 ghost use Rattle.matrix.specs.List.{same_list};
 ghost use Rattle.matrix.specs.Matrix.{listed};
 ghost use Rattle.matrix.specs.Operator.{Orthogonal};
-ghost use Rattle.matrix.specs.Laws.Array.{operator_of};
+ghost use Rattle.matrix.specs.Array.{operator_of};
 ghost use Rattle.clifford.specs.Columns.{are_permutation, columns_matrix};
 ghost use Rattle.reduction.specs.Reduction.{normal_form};
 ghost use Rattle.reduction.specs.Laws.NormalForm.{Numbers};

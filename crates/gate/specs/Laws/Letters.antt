@@ -8,8 +8,7 @@ use Rattle.std.proofs.Math.Seq.{drop-length}
 use Rattle.matrix.specs.Matrix.{δ, entry, listed}
 use Rattle.matrix.specs.Operator.{operator, Orthogonal}
 use Rattle.matrix.specs.declared.Scaled.{Scaled}
-use Rattle.matrix.specs.Array.{least, least_form}
-use Rattle.matrix.specs.Laws.Array.{operator_of}
+use Rattle.matrix.specs.Array.{least, least_form, operator_of}
 use Rattle.file.specs.File.{largest_exponent}
 use Rattle.letter.specs.declared.Gate.{Gate}
 use Rattle.letter.specs.Gate.{gate_of}

@@ -5,10 +5,10 @@ use Rattle.std.proofs.Math.Decide.{dec_lt}
 use Rattle.std.proofs.lemmas.List.{take-append-le}
 use Rattle.std.proofs.Math.Seq.{take-length}
 use Rattle.matrix.specs.Matrix.{listed}
-use Rattle.matrix.specs.Array.{least_form}
+use Rattle.matrix.specs.Array.{least_form, operator_of}
 use Rattle.matrix.specs.Operator.{SameOperator, Orthogonal, Reduced, LeastExponent}
 use Rattle.matrix.specs.Laws.Operator.{same_operator_sym, same_operator_trans, same_orthogonal, least_same, least_unique}
-use Rattle.matrix.specs.Laws.Array.{operator_of, listed_same, length_listed, least_form_lem, least_exponent}
+use Rattle.matrix.specs.Laws.Array.{listed_same, length_listed, least_form_lem, least_exponent}
 use Rattle.file.specs.File.{largest_exponent, length_for}
 use Rattle.file.specs.Laws.File.{exponent_back, operator_back}
 use Rattle.letter.specs.declared.Gate.{Gate}

@@ -9,10 +9,10 @@ use Rattle.matrix.specs.Operator.{Operator, operator, times_operator, SameOperat
 use Rattle.std.proofs.lemmas.Option.{none-some, same_Some}
 use Rattle.refusal.specs.Laws.Refusal.{ok_err, same_err, same_ok}
 use Rattle.matrix.specs.declared.Scaled.{Scaled}
-use Rattle.matrix.specs.Array.{least_form}
+use Rattle.matrix.specs.Array.{least_form, operator_of}
 use Rattle.matrix.specs.Laws.Matrix.{same_refl, product_cong, product_assoc, product_id_r}
 use Rattle.matrix.specs.Laws.Operator.{same_operator_refl, same_operator_sym, same_operator_trans, same_operator_of, times_same, times_orthogonal, same_orthogonal}
-use Rattle.matrix.specs.Laws.Array.{operator_of, entry_listed, listed_is, listed_cong, listed_same, length_listed, same_least_form}
+use Rattle.matrix.specs.Laws.Array.{entry_listed, listed_is, listed_cong, listed_same, length_listed, same_least_form}
 use Rattle.matrix.specs.Laws.Inverse.{times_identity}
 use Rattle.matrix.specs.Laws.Right.{least_right}
 use Rattle.file.specs.File.{largest_exponent}

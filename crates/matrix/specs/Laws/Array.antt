@@ -14,7 +14,7 @@ use Rattle.matrix.specs.Matrix.{Matrix, Same, δ, replaced, combined, row_produc
 use Rattle.matrix.specs.Determinant.{det}
 use Rattle.matrix.specs.Operator.{Operator, operator, SameOperator, Orthogonal, LeastExponent, AllEven, Reduced}
 use Rattle.matrix.specs.declared.Scaled.{Scaled}
-use Rattle.matrix.specs.Array.{Bounded, everywhere, orthogonal_at, is_orthogonal, is_within, row_mask, row_weight, odd_at, before_odd, halved, half_sums, choose, least, least_form}
+use Rattle.matrix.specs.Array.{Bounded, everywhere, orthogonal_at, is_orthogonal, is_within, row_mask, row_weight, odd_at, before_odd, halved, half_sums, choose, least, least_form, operator_of}
 use Rattle.matrix.specs.Laws.Integer.{*ℤ-unit-r, equals_eq, equals_yes, square_size, nat_abs_add_le, nat_abs_minus_le}
 use Rattle.matrix.specs.Laws.Parity.{half_even, half_sum, half_minus, even_parity, parity_even, parity_lt, parity_cases, nat_abs_half}
 use Rattle.matrix.specs.Laws.Range.{every_sound, every_complete, first_in, first_most, first_passed, length_tabulate, get_d_tabulate, tabulate_is, bits_lt, bit_at, ones_bits}
@@ -274,9 +274,6 @@ unfolding least_form
 least_small zero m h = refl
 least_small (suc zero) m h = refl
 least_small (suc (suc k)) m h = absurd (omega arith)
-
-abbrev pub operator_of : Scaled → Operator
-operator_of l = operator l.exponent (entry l.matrix)
 
 -- an array that holds the entries stands for the same matrix
 pub listed_same : (A : Operator) → SameOperator A (operator A.exponent (entry (listed A.matrix)))

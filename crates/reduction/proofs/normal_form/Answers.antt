@@ -3,8 +3,9 @@ use mathlib.Core.Path.{sym, subst}
 use Prim.Native.Nat.{◌≤◌}
 use native.Mathlib.Omega.{arith}
 use Rattle.matrix.specs.Operator.{Orthogonal, Reduced}
+use Rattle.matrix.specs.Array.{operator_of}
 use Rattle.matrix.specs.declared.Scaled.{Scaled}
-use Rattle.matrix.specs.Laws.Array.{operator_of, least_form_lem, least_orthogonal}
+use Rattle.matrix.specs.Laws.Array.{least_form_lem, least_orthogonal}
 use Rattle.reduction.proofs.normal_form.Goals as goal
 
 pub reduce-requires : goal.reduce-requires

@@ -6,10 +6,11 @@ use Rattle.std.proofs.Math.ListN.{length}
 use Rattle.matrix.specs.Range.{every}
 use Rattle.matrix.specs.Matrix.{entry, listed}
 use Rattle.matrix.specs.Operator.{operator, SameOperator, Orthogonal, LeastExponent}
+use Rattle.matrix.specs.Array.{operator_of}
 use Rattle.matrix.specs.Laws.Test.{and_left, and_right, same_list_lem}
 use Rattle.matrix.specs.Laws.Range.{every_sound}
 use Rattle.matrix.specs.Laws.Operator.{same_operator_sym, same_operator_trans, same_orthogonal, least_same}
-use Rattle.matrix.specs.Laws.Array.{operator_of, listed_cong, listed_same, length_listed, least_form_lem, least_orthogonal, least_exponent}
+use Rattle.matrix.specs.Laws.Array.{listed_cong, listed_same, length_listed, least_form_lem, least_orthogonal, least_exponent}
 use Rattle.clifford.specs.Columns.{columns_matrix, signed, are_column_bytes, are_permutation, is_even}
 use Rattle.clifford.specs.Laws.Columns.{Permutation, permutation_sound, permutation_complete, columns_orthogonal}
 use Rattle.clifford.specs.Laws.Signed.{signed_permutation}

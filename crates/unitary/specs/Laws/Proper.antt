@@ -6,12 +6,12 @@ use Rattle.matrix.specs.Range.{sum, every_from}
 use Rattle.matrix.specs.Matrix.{Matrix, δ, entry, listed}
 use Rattle.matrix.specs.Determinant.{det, minor}
 use Rattle.matrix.specs.Operator.{Operator, operator, times_operator, SameOperator, Orthogonal, Proper}
-use Rattle.matrix.specs.Array.{least_form, is_orthogonal}
+use Rattle.matrix.specs.Array.{least_form, is_orthogonal, operator_of}
 use Rattle.matrix.specs.Laws.Integer.{*ℤ-assoc, *ℤ-unit-l, *ℤ-left-comm, times_positive}
 use Rattle.matrix.specs.Laws.Sum.{sum_cong, mul_sum, sum_δ_r}
 use Rattle.matrix.specs.Laws.Determinant.{det_cong}
 use Rattle.matrix.specs.Laws.Operator.{same_operator_refl, same_operator_sym, same_operator_trans, same_operator_of, times_same, times_orthogonal, same_orthogonal, same_proper}
-use Rattle.matrix.specs.Laws.Array.{orthogonal_sound, operator_of, listed_same, least_form_lem, least_orthogonal}
+use Rattle.matrix.specs.Laws.Array.{orthogonal_sound, listed_same, least_form_lem, least_orthogonal}
 use Rattle.clifford.specs.Columns.{columns_matrix, column_bytes, is_even}
 use Rattle.clifford.specs.Laws.Columns.{matrix_columns, matrix_permutation}
 use Rattle.sign.specs.Laws.Sign.{columns_det}
