@@ -23,7 +23,8 @@ fn column_byte(m: [i64; 36], c: usize) -> u8
     135
 }
 
-// The six column bytes of a matrix.
+// The six column bytes of a matrix. Six bytes are an array, and that they are a permutation is a clause: the definitions speak of every list of bytes,
+// and most functions take them as they come.
 pub fn columns_of(m: [i64; 36]) -> [u8; 6]
     ensures { result ≡ column_bytes (entry m) }
 {

@@ -1,4 +1,7 @@
 // Gate lists read from OpenQASM 2.0 text (document 02, P8): refusals 23, 7 and 6. The contracts cite specs/ and those of `qasm`.
+//
+// A place in a text stays a number, and what is behind it no slice: `after_line`, `LineAt` and `StatementsFrom` speak of the place, and `read_qasm` asks
+// for it to keep the bytes from there on.
 
 #![tactic(auto)]
 

@@ -23,6 +23,8 @@ pub struct Step {
 }
 
 // What a reduction gives: the generators' numbers, of which the first `count` count, how many of these cuts were loose, and the matrix that remains.
+// The array has all sixty bytes, since `WholeOf` says that those behind the count are 0. A type parameter for what remains, here and in `Cut`, would give
+// a matrix and six columns one name.
 #[derive(Clone, Copy, Debug, PartialEq, Eq)]
 pub struct Normal {
     pub count: u8,

@@ -28,7 +28,8 @@ const PAIRS: [[u8; 6]; 15] = [
     [0, 5, 1, 4, 2, 3],
 ];
 
-// The rows of generator g, pair by pair.
+// The rows of generator g, pair by pair. That a number is one of the fifteen is a clause, and no type: numbers stand as bytes in sheets and normal forms,
+// and a type would be built from the byte at each use.
 pub fn pairs_of(g: usize) -> [u8; 6]
     requires { (1 ≤ g) × (g ≤ 15) }
     ensures { result ≡ pair_rows g }

@@ -1,4 +1,5 @@
-// Bytes read from a stream, for the programs.
+// Bytes read from a stream, for the programs. The `main` of each that answers its input reads, answers and prints in five lines, with buffers of its own
+// size: one generic over them would ask of the closure, in a clause for each, what its answer is within.
 
 #![tactic(auto)]
 
