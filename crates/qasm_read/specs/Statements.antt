@@ -1,5 +1,5 @@
 -- A text read from a place on, a statement at a time.
-use Rattle.std.specs.Prelude.{Bool, false, cond, List, [], ◌++◌, ◌≡◌, ℕ, ◌+◌, ◌*◌, ◌≤◌, ◌<◌, length, take, drop, Option, Some, None}
+use Rattle.std.specs.Prelude.{Bool, false, cond, List, [], ◌++◌, ◌≡◌, ℕ, ◌+◌, ◌*◌, ◌≤◌, ◌<◌, ltb, length, take, drop, Option, Some, None}
 use Rattle.matrix.specs.List.{same_list}
 use Rattle.letter.specs.declared.Gate.{Gate}
 use Rattle.gate.specs.Reading.{Reading, gates, refusal}
@@ -45,6 +45,10 @@ pub record NoStatement (bs : List ℕ) : Type 0 where
 abbrev pub LineAt : List ℕ → ℕ → Option Statement → Type 0
 LineAt bs at (Some s) = StatementAt bs at s.gate s.end
 LineAt bs at None = NoStatement (drop at bs)
+
+-- a gate's statement, where its line l stands at a place
+abbrev pub line_at : List ℕ → ℕ → List ℕ → Gate → Option Statement
+line_at bs at l g = cond (ltb at (after_line bs at l)) (Some (record { gate = g; end = after_line bs at l })) None
 
 -- ---- statements one after the other
 

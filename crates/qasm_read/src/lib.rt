@@ -10,7 +10,7 @@ ghost use Rattle.refusal.specs.Refusal.{numbered};
 ghost use Rattle.file.specs.File.{written};
 ghost use Rattle.letter.specs.Gate.{letter};
 ghost use Rattle.qasm.specs.Promise.{size, LettersPromise};
-ghost use Rattle.qasm_read.specs.Statements.{after_line, read_from, list_in, LineAt, StatementsFrom};
+ghost use Rattle.qasm_read.specs.Statements.{after_line, line_at, read_from, list_in, LineAt, StatementsFrom};
 
 use letter::Gate;
 use refusal::Refusal;
@@ -51,68 +51,31 @@ pub fn after(text: &[u8], at: usize, line: &[u8]) -> usize
     at + line.len()
 }
 
+// A gate's statement by one of its lines, if the line stands at a place.
+fn line_at(text: &[u8], at: usize, line: &[u8], gate: Gate) -> Option<Statement>
+    requires { at ≤ length text.now }
+    ensures { result ≡ line_at text.now at line.now gate }
+{
+    let end = after(text, at, line);
+    if at < end {
+        return Some(Statement { gate, end });
+    }
+    None
+}
+
 // The statement that stands at a place.
 fn statement_at(text: &[u8], at: usize) -> Option<Statement>
     requires { at ≤ length text.now }
     ensures { LineAt text.now at result }
 {
-    let end = after(text, at, &qasm::H_FIRST);
-    if at < end {
-        return Some(Statement {
-            gate: Gate::H1,
-            end,
-        });
-    }
-    let end = after(text, at, &qasm::H_SECOND);
-    if at < end {
-        return Some(Statement {
-            gate: Gate::H2,
-            end,
-        });
-    }
-    let end = after(text, at, &qasm::S_FIRST);
-    if at < end {
-        return Some(Statement {
-            gate: Gate::S1,
-            end,
-        });
-    }
-    let end = after(text, at, &qasm::S_SECOND);
-    if at < end {
-        return Some(Statement {
-            gate: Gate::S2,
-            end,
-        });
-    }
-    let end = after(text, at, &qasm::CZ);
-    if at < end {
-        return Some(Statement {
-            gate: Gate::Cz,
-            end,
-        });
-    }
-    let end = after(text, at, &CZ_REVERSED);
-    if at < end {
-        return Some(Statement {
-            gate: Gate::Cz,
-            end,
-        });
-    }
-    let end = after(text, at, &qasm::CS);
-    if at < end {
-        return Some(Statement {
-            gate: Gate::Cs,
-            end,
-        });
-    }
-    let end = after(text, at, &CS_REVERSED);
-    if at < end {
-        return Some(Statement {
-            gate: Gate::Cs,
-            end,
-        });
-    }
-    None
+    line_at(text, at, &qasm::H_FIRST, Gate::H1)
+        .or_else(|| line_at(text, at, &qasm::H_SECOND, Gate::H2))
+        .or_else(|| line_at(text, at, &qasm::S_FIRST, Gate::S1))
+        .or_else(|| line_at(text, at, &qasm::S_SECOND, Gate::S2))
+        .or_else(|| line_at(text, at, &qasm::CZ, Gate::Cz))
+        .or_else(|| line_at(text, at, &CZ_REVERSED, Gate::Cz))
+        .or_else(|| line_at(text, at, &qasm::CS, Gate::Cs))
+        .or_else(|| line_at(text, at, &CS_REVERSED, Gate::Cs))
 }
 
 // The statements that stand one after the other from a place on.
