@@ -1,32 +1,40 @@
-use mathlib.Core.Path.{◌≡◌, ap, subst, ◌∙◌}
+use mathlib.Core.Path.{◌≡◌, refl, sym, ap, subst, ◌∙◌}
 use mathlib.Core.List.{List}
-use Prim.Native.Nat.{ℕ, ◌+◌, ◌*◌, ◌^◌, ◌<◌, ◌≤◌}
+use Prim.Native.Nat.{ℕ, ◌+◌, ◌*◌, ◌<◌, ◌≤◌}
 use native.Mathlib.Omega.{arith}
 use lib.IntN.{ℤ, pos}
-use lib.ListN.{length, get_or, length-set}
+use lib.ListN.{length, get_or, take, length-set}
 use borrow.Author.Tests.{lt-ltb, le-ltb}
+use borrow.Rule.Slice.PartMut.{put_mid}
 use Rattle.matrix.specs.Range.{tabulate}
+use Rattle.matrix.specs.Laws.Range.{length_tabulate}
 use Rattle.file.specs.File.{short_exponent, length_of, width_of, highest_of, kind_for, bits_of, byte_of, Appended}
-use Rattle.file.specs.Laws.Encoding.{stored_entry, Begun, begun_none, begun_more, begun_all}
+use Rattle.file.specs.Laws.Written.{appended_copied}
+use Rattle.file.specs.Laws.Encoding.{Begun, begun_none, begun_more, begun_all, stored_bytes}
 use Rattle.file.proofs.encode.Goals as goal
 use Rattle.file.proofs.encode.Goals.{then-operator-le-SHORT_EXPONENT, else-operator-le-SHORT_EXPONENT}
 
--- the width of an entry and the worth of its highest bit, by the exponent
-abbrev sizes : ℕ → ℕ × ℕ
-sizes k = (width_of (kind_for k), highest_of (kind_for k))
-
-short : (k : ℕ) → k ≤ short_exponent → ◌≡◌ {A = ℕ × ℕ} (2, 2 ^ 15) (sizes k)
+-- the width of an entry, by the exponent
+short : (k : ℕ) → k ≤ short_exponent → 2 ≡ width_of (kind_for k)
 short k l = rw (le-ltb short_exponent k l)
 
-long : (k : ℕ) → short_exponent < k → ◌≡◌ {A = ℕ × ℕ} (4, 2 ^ 31) (sizes k)
+long : (k : ℕ) → short_exponent < k → 4 ≡ width_of (kind_for k)
 long k l = rw (lt-ltb short_exponent k l)
 
-module _ (k : ℕ) (p : ℕ × ℕ) (s : p ≡ sizes k) (m : List ℤ) (n : ℕ) (old new : List ℕ) (w : Begun (kind_for k) k m n old new) (l : length_of (kind_for k) ≤ length old) (h : n < 36) where
-  turn : (u : ℕ) → u ≡ bits_of p.1 (get_or m n (pos 0)) → (last : List ℕ)
-      → Appended (tabulate (byte_of u) 0 p.0) (1 + p.0 * n) new last (1 + p.0 * n + p.0) → Begun (kind_for k) k m (n + 1) old last
-  turn u e last v =
-      begun_more (kind_for k) k m n old new w l u (e ∙ ap (λ q. bits_of q.1 (get_or m n (pos 0))) s) h last
-      (subst (λ q. Appended (tabulate (byte_of u) 0 q.0) (1 + q.0 * n) new last (1 + q.0 * n + q.0)) s v)
+-- the bytes of entry n, copied to its place
+module _ (k p : ℕ) (s : p ≡ width_of (kind_for k)) (m : List ℤ) (n : ℕ) (old new : List ℕ) (w : Begun (kind_for k) k m n old new) (l : length_of (kind_for k) ≤ length old) (h : n < 36) where
+  abbrev number : ℕ
+  number = bits_of (highest_of (kind_for k)) (get_or m n (pos 0))
+
+  abbrev bytes : List ℕ
+  bytes = tabulate (byte_of number) 0 (width_of (kind_for k))
+
+  turn : (r : ℕ) (ys : List ℕ) → r ≡ p → ys ≡ bytes → Begun (kind_for k) k m (n + 1) old (put_mid (1 + p * n) r new ys)
+  turn r ys e f =
+      let last = put_mid (1 + p * n) r new ys in
+      let x = length_tabulate (byte_of number) 0 (width_of (kind_for k)) in
+      let v = subst (λ z. Appended bytes (1 + p * n) new last (1 + p * n + z)) x (appended_copied bytes (1 + p * n) r new ys f (x ∙ sym s ∙ sym e)) in
+      begun_more (kind_for k) k m n old new w l number refl h last (subst (λ z. Appended bytes (1 + z * n) new last (1 + z * n + width_of (kind_for k))) s v)
 
 pub loop-n-init : goal.loop-n-init
 loop-n-init c =
@@ -38,15 +46,14 @@ pub loop-n-preserved : goal.loop-n-preserved
 loop-n-preserved c =
     let o = c.args.operator.now in
     let l = c.loop-n in
-    let u = c.unsigned in
     let p = c.if-operator-le-SHORT_EXPONENT.width in
-    let s : p ≡ sizes o.exponent =
+    let s : p ≡ width_of (kind_for o.exponent) =
     elim c.if-operator-le-SHORT_EXPONENT.branch [
       | then-operator-le-SHORT_EXPONENT w ↦ w.width-is ∙ short o.exponent w.if-operator-le-SHORT_EXPONENT.true
       | else-operator-le-SHORT_EXPONENT w ↦ w.width-is ∙ long o.exponent w.if-operator-le-SHORT_EXPONENT.false
     ] in
-    let e = u.ensures ∙ ap (bits_of p.1) (stored_entry (kind_for o.exponent) o.matrix c.requires.1 l.n (omega arith)) in
-    (l.invariant.0, turn o.exponent p s o.matrix l.n _ _ l.invariant.1 l.invariant.0 c.loop-n-test.true u.result e _ c.write_number.ensures)
+    let b = c.copy_from_slice.ensures.after ∙ ap (take p) c.to_le_bytes-bits.ensures in
+    (l.invariant.0, turn o.exponent p s o.matrix l.n _ _ l.invariant.1 l.invariant.0 c.loop-n-test.true _ _ (omega arith) (b ∙ stored_bytes (kind_for o.exponent) p s o.matrix c.requires.1 l.n (omega arith)))
 
 pub returns : goal.returns
 returns c = let o = c.args.operator.now in begun_all (kind_for o.exponent) o.exponent o.matrix c.loop-n.n c.args.out.now _ (omega arith) c.loop-n.invariant.1

@@ -1,8 +1,9 @@
 -- The bits and the bytes of an entry.
-use Rattle.std.specs.Prelude.{◌≡◌, refl, Bool, true, false, cond, List, ℕ, zero, suc, ◌+◌, ◌*◌, ◌-◌, ◌/◌, ◌%◌, ◌<◌, ◌≤◌, T, ltb, ℤ, pos, negsuc, nat_abs, ◌+ℤ◌, ◌-ℤ◌, get_or}
-use Rattle.std.proofs.Common.{sym, ap, ap₂, ◌∙◌, subst, mod-eq_of_lt, arith, lt-ltb, le-ltb, ltb-true, ltb-false}
+use Rattle.std.specs.Prelude.{◌≡◌, refl, Bool, true, false, cond, List, [], ◌∷◌, ℕ, zero, suc, ◌+◌, ◌*◌, ◌-◌, ◌/◌, ◌%◌, ◌^◌, ◌<◌, ◌≤◌, ltb, ℤ, pos, negsuc, nat_abs, ◌-ℤ◌, get_or, take}
+use Rattle.std.proofs.Common.{sym, ap, ap₂, ◌∙◌, mod-eq_of_lt, arith, lt-ltb, le-ltb, ltb-true, ltb-false}
 use Rattle.std.proofs.Math.Nat.{div-div-eq-div-mul}
-use Rattle.std.specs.Int.Signed.{lt_z}
+use Rattle.std.specs.Int.{w32, cast_unsigned, to_le_bytes}
+use Rattle.matrix.specs.Range.{tabulate}
 use Rattle.file.specs.File.{Kind, short_file, long_file, width_of, highest_of, signed_of, two_at, entry_bits, bits_of, byte_of, file_byte}
 
 -- ---- two's complement, where the highest bit is worth h
@@ -15,16 +16,6 @@ module _ (h : ℕ) where
   pub bits_lt : (x : ℤ) → nat_abs x < h → bits_of h x < 2 * h
   bits_lt (pos n) f = omega arith
   bits_lt (negsuc n) f = omega arith
-
-  -- the bits of a number below zero
-  pub bits_negative : (x : ℤ) → nat_abs x < h → lt_z x (pos 0) ≡ true → x +ℤ pos (2 * h) ≡ pos (bits_of h x)
-  bits_negative (pos n) f t = let l = ltb-true n 0 t in absurd (omega arith)
-  bits_negative (negsuc n) f t = let l : suc n ≤ 2 * h = omega arith in rw (le-ltb (2 * h) (suc n) l)
-
-  -- and of one that is not below
-  pub bits_positive : (x : ℤ) → lt_z x (pos 0) ≡ false → x ≡ pos (bits_of h x)
-  bits_positive (pos n) t = refl
-  bits_positive (negsuc n) t = absurd (subst T t tt)
 
   pub signed_bits : (x : ℤ) → nat_abs x < h → signed_of h (bits_of h x) ≡ x
   signed_bits (pos n) f = rw (lt-ltb n h f)
@@ -85,3 +76,17 @@ two_lt b byte i = let x = byte i in let y = byte (i + 1) in omega arith
 pub entry_lt : (t : Kind) (b : List ℕ) → ((i : ℕ) → get_or b i 0 < 256) → (n : ℕ) → entry_bits t b n < 2 * highest_of t
 entry_lt short_file b byte n = let l = two_lt b byte (1 + 2 * n) in omega arith
 entry_lt long_file b byte n = let l = two_lt b byte (1 + 4 * n) in let u = two_lt b byte (3 + 4 * n) in omega arith
+
+lowest : (u : ℕ) → u % 256 ≡ byte_of u 0
+lowest u = omega arith
+
+-- the low bytes of a number's 32 bits
+pub low_bytes : (t : Kind) (x : ℤ) → nat_abs x < highest_of t → take (width_of t) (to_le_bytes w32 (cast_unsigned w32 x)) ≡ tabulate (byte_of (bits_of (highest_of t) x)) 0 (width_of t)
+unfolding tabulate
+low_bytes short_file (pos n) h = ap (λ x. x ∷ byte_of n 1 ∷ []) (lowest n)
+low_bytes short_file (negsuc n) h =
+    let p : (2 ^ 32 - suc n) % 256 ≡ byte_of (2 ^ 16 - suc n) 0 = omega arith in
+    let q : (2 ^ 32 - suc n) / 256 % 256 ≡ byte_of (2 ^ 16 - suc n) 1 = omega arith in
+    ap₂ (λ x y. x ∷ y ∷ []) p q
+low_bytes long_file (pos n) h = ap (λ x. x ∷ byte_of n 1 ∷ byte_of n 2 ∷ byte_of n 3 ∷ []) (lowest n)
+low_bytes long_file (negsuc n) h = let u = 2 ^ 32 - suc n in ap (λ x. x ∷ byte_of u 1 ∷ byte_of u 2 ∷ byte_of u 3 ∷ []) (lowest u)

@@ -1,12 +1,12 @@
 -- A file written an entry at a time.
-use Rattle.std.specs.Prelude.{◌≡◌, refl, List, [], ◌∷◌, ℕ, ◌+◌, ◌*◌, ◌^◌, ◌<◌, ◌≤◌, ℤ, pos, length, get_or, set}
-use Rattle.std.proofs.Common.{sym, ap, subst, ◌∙◌, arith, to_z, of_z}
-use Rattle.std.specs.Int.{w64}
+use Rattle.std.specs.Prelude.{◌≡◌, refl, List, [], ◌∷◌, ℕ, ◌+◌, ◌*◌, ◌^◌, ◌<◌, ◌≤◌, ℤ, pos, length, get_or, set, take}
+use Rattle.std.proofs.Common.{sym, ap, subst, ◌∙◌, arith, to_z, of_z, to_z-of_z}
+use Rattle.std.specs.Int.{w32, w64, to_le_bytes}
 use Rattle.matrix.specs.Range.{tabulate}
 use Rattle.matrix.specs.Laws.Range.{length_tabulate, get_d_tabulate}
 use Rattle.matrix.specs.Laws.Machine.{kept, mag_le}
 use Rattle.file.specs.File.{Kind, short_file, long_file, length_of, width_of, highest_of, Fits, bits_of, byte_of, file_byte, file_as, Appended, written}
-use Rattle.file.specs.Laws.Bytes.{file_byte_lem}
+use Rattle.file.specs.Laws.Bytes.{file_byte_lem, low_bytes}
 use Rattle.file.specs.Laws.File.{length_as, some_byte}
 use Rattle.file.specs.Laws.Written.{written_over, tabulate_more, appended_as, appended_front, appended_append, appended_length}
 
@@ -30,9 +30,17 @@ highest_small : (t : Kind) → highest_of t ≤ 2 ^ 31
 highest_small short_file = omega arith
 highest_small long_file = omega arith
 
--- an entry that fits, as the machine has it
-pub stored_entry : (t : Kind) (m : List ℤ) → Fits t m → (n : ℕ) → n < 36 → to_z w64 (of_z w64 (get_or m n (pos 0))) ≡ get_or m n (pos 0)
-stored_entry t m f n l = let h = mag_le (get_or m n (pos 0)) in let u = highest_small t in let x = f.below n l in kept (omega arith)
+-- the low bytes of an entry that fits, as the machine has it
+pub stored_bytes : (t : Kind) (p : ℕ) → p ≡ width_of t → (m : List ℤ) → Fits t m → (n : ℕ) → n < 36
+    → take p (to_le_bytes w32 (of_z w32 (to_z w32 (of_z w32 (to_z w64 (of_z w64 (get_or m n (pos 0)))))))) ≡ tabulate (byte_of (bits_of (highest_of t) (get_or m n (pos 0)))) 0 (width_of t)
+stored_bytes t p s m f n l =
+    let x = get_or m n (pos 0) in
+    let h = mag_le x in
+    let u = highest_small t in
+    let b = f.below n l in
+    let e : to_z w64 (of_z w64 x) ≡ x = kept (omega arith) in
+    let k : to_z w32 (of_z w32 x) ≡ x = to_z-of_z {w = w32} (record { sfits = omega arith }) in
+    rw (e, k) (ap (λ q. take q (to_le_bytes w32 (of_z w32 x))) s ∙ low_bytes t x b)
 
 -- the exponent and the first n entries are written
 abbrev pub Begun : Kind → ℕ → List ℤ → ℕ → List ℕ → List ℕ → Type 0

@@ -6,6 +6,8 @@ use Rattle.std.proofs.Math.ListN.{get_or-append}
 use Rattle.std.proofs.Math.Seq.{paste, paste-zero, take-length, append_snoc}
 use Rattle.std.proofs.lemmas.List.Edits.{length-paste, take-paste, drop-paste}
 use Rattle.std.proofs.lemmas.List.{set_split}
+use Rattle.std.proofs.lemmas.Slice.{put_mid-paste}
+use borrow.Rule.Slice.PartMut.{put_mid}
 use Rattle.matrix.specs.Range.{tabulate}
 use Rattle.matrix.specs.Laws.Range.{Filled, length_tabulate, get_d_tabulate, tabulate_is}
 use Rattle.file.specs.File.{written, Appended}
@@ -66,6 +68,13 @@ pub appended_one : (b at : ℕ) (old : List ℕ) → at < length old → Appende
 appended_one b at old h = record {
   next = refl;
   buffer = set_split old at b h ∙ sym (append_snoc (take at old) b (drop (suc at) old)) ∙ ap (λ k. take at old ++ (b ∷ []) ++ drop k old) (sym (add-one at));
+}
+
+-- bytes copied into the buffer
+pub appended_copied : (bs : List ℕ) (at k : ℕ) (old ys : List ℕ) → ys ≡ bs → length bs ≡ k → Appended bs at old (put_mid at k old ys) (at + length bs)
+appended_copied bs at k old ys e l = record {
+  next = refl;
+  buffer = put_mid-paste at k old ys bs (length bs) e l refl ∙ ap (λ b. take at old ++ b ++ drop (at + length bs) old) (take-length bs);
 }
 
 module _ {bs : List ℕ} {at r : ℕ} {old new : List ℕ} (h : Appended bs at old new r) (fits : at + length bs ≤ length old) where
