@@ -66,7 +66,7 @@ pub fn short_entry(bytes: &[u8], n: usize) -> i64
     i16::from_le_bytes([bytes[at], bytes[at + 1]]) as i64
 }
 
-// Entry n of a long file: 32 bits.
+// Entry n of a long file: 32 bits. The two differ in the library's type, and one over both would be a trait with two instances of one line.
 fn long_entry(bytes: &[u8], n: usize) -> i64
     requires { 4 + 4 * n < length bytes.now }
     ensures { result ≡ entry_of long_file bytes.now n }
