@@ -23,7 +23,7 @@ pub struct Part {
     pub length: usize,
 }
 
-// The byte at a place, 0 past the end.
+// The byte at a place, 0 past the end; no `Option`, since the definitions read bytes so (`get_or`).
 pub fn byte_at(bytes: &[u8], at: usize) -> u8
     ensures { result ≡ get_or bytes.now at 0 }
 {
@@ -89,7 +89,7 @@ pub fn check_bundle(bytes: &[u8], n: u64) -> Result<(), Refusal>
     Ok(())
 }
 
-// The number of the refusal that a bundle and the number of a sheet earn, or 0: document 02, P7, asks for the number, so it is no `Result`.
+// "a check of the same bytes and n gives the number, or 0 if there is none" (document 02, P7), so it is no `Result`.
 pub fn bundle_refusal(bytes: &[u8], n: u64) -> u8
     ensures { result ≡ bundle_refusal bytes.now n }
 {
@@ -111,7 +111,8 @@ pub fn bundle_part(bytes: &[u8], n: u64) -> Result<Part, Refusal>
     Ok(Part { start, length })
 }
 
-// Sheet n of a bundle, as a part of the bytes handed in, which points to its place in them; an empty part, at their front, on a refusal.
+// Sheet n of a bundle, as a part of the bytes handed in, which points to its place in them; an empty part, at their front, on a refusal, as the
+// definition `sheet_in` has it ("On a refusal the part is empty").
 // Wrong, and refused: a part one byte longer; all bytes from the first on; the bytes from another place.
 pub fn bundle_sheet(bytes: &[u8], n: u64) -> &[u8]
     ensures { (result.now ≡ sheet_in bytes.now n) × (length result.now < 200) × (result.ref_ptr ≡ (bytes.entry.ref_ptr.0, bytes.entry.ref_ptr.1 + place_in bytes.now n)) }

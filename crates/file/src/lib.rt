@@ -12,7 +12,8 @@ use matrix::Scaled;
 use refusal::Refusal;
 use std::array;
 
-// The bytes of a short operator file and of a long one.
+// The bytes of a short operator file and of a long one. The kind of a file is its length, or what its exponent calls for, and no enum: each function
+// that asks for it asks once, and has one of these in hand.
 pub const SHORT_LENGTH: usize = 73;
 
 pub const LONG_LENGTH: usize = 145;
@@ -66,7 +67,7 @@ pub fn short_entry(bytes: &[u8], n: usize) -> i64
     i16::from_le_bytes([bytes[at], bytes[at + 1]]) as i64
 }
 
-// Entry n of a long file: 32 bits. The two differ in the library's type, and one over both would be a trait with two instances of one line.
+// Entry n of a long file: 32 bits. The two are the library's conversions to two types; one function over the width would extend the sign by hand again.
 fn long_entry(bytes: &[u8], n: usize) -> i64
     requires { 4 + 4 * n < length bytes.now }
     ensures { result ≡ entry_of long_file bytes.now n }

@@ -2,9 +2,10 @@
 
 #![tactic(auto)]
 
-ghost use Rattle.std.specs.Prelude.{◌≡◌, true, ◌+◌, ◌*◌, ◌≤◌, length, take};
+ghost use Rattle.std.specs.Prelude.{◌≡◌, true, ◌+◌, ◌*◌, ◌≤◌, length};
 ghost use Rattle.clifford.specs.Columns.{are_column_bytes};
 ghost use Rattle.reduction.specs.Laws.NormalForm.{Numbers};
+ghost use Rattle.reduction.specs.Taken.{numbers_in};
 ghost use Rattle.letter.specs.Written.{Written};
 ghost use Rattle.word_code.specs.Writer.{WritesWord};
 ghost use Rattle.gate_list.specs.List.{right_of, stretch, stretch_sign, gate_list, list_sign};
@@ -305,8 +306,8 @@ pub struct List {
 // Writes the gate list of a normal form to the front of `out`. Two stretches with sign 1 make a list of sign 0.
 // Wrong, and refused: the sign 0 for every list; the sign of the last stretch alone; how many stretches have the sign 1, and not whether that is odd.
 pub fn write_list(cut: &Cut, out: &mut [u8]) -> List
-    requires { Numbers (take cut.now.count cut.now.numbers) × (are_column_bytes cut.now.columns ≡ true) × (256 * (cut.now.count + 1) ≤ length out.old) }
-    ensures { Written (gate_list (take cut.now.count cut.now.numbers) cut.now.columns) 0 out.old out.new result.letters × (result.sign ≡ list_sign (take cut.now.count cut.now.numbers) cut.now.columns) }
+    requires { Numbers (numbers_in cut.now) × (are_column_bytes cut.now.columns ≡ true) × (256 * (cut.now.count + 1) ≤ length out.old) }
+    ensures { Written (gate_list (numbers_in cut.now) cut.now.columns) 0 out.old out.new result.letters × (result.sign ≡ list_sign (numbers_in cut.now) cut.now.columns) }
 {
     let codes = stretch_codes();
     let mut writer = Writer::new(out);

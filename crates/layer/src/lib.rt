@@ -12,8 +12,8 @@ use refusal::Refusal;
 
 // The first layer in which qubits x and y are both free, where `free` has the first one for each qubit. They are free from the next layer on then.
 // Wrong, and refused: the first qubit looked at alone; the second one left free; a qubit that is free one layer later.
-fn take_layer(free: &mut [u8], x: u8, y: u8) -> u8
-    requires { (length free.old ≡ qubits) × (x < qubits) × (y < qubits) × (max (get_or free.old x 0) (get_or free.old y 0) < most_blocks) }
+fn take_layer(free: &mut [u8; block::QUBITS as usize], x: u8, y: u8) -> u8
+    requires { (x < qubits) × (y < qubits) × (max (get_or free.old x 0) (get_or free.old y 0) < most_blocks) }
     ensures { (result ≡ max (get_or free.old x 0) (get_or free.old y 0)) × (free.new ≡ set (set free.old x (result + 1)) y (result + 1)) }
 {
     let layer = free[x as usize].max(free[y as usize]);

@@ -1,8 +1,8 @@
 // Exact arithmetic on a matrix of 36 whole numbers, row by row.
 // The contracts cite the definitions of specs/Array.antt; entries of at most 2^30 in size leave room for the sum of six products.
 //
-// Facts that stay clauses, here and in the crates above: that an index is below 6, for a range makes it and `i * 6 + c` uses it at once; and that entries
-// are bounded, for a sum of two of them may not be, and what bounds them is that an operator is orthogonal.
+// Facts that stay clauses, here and in the crates above: that an index is below 4 or 6, for a range or a table gives it as a number and `i * 6 + c` or the
+// table takes it as one; and that entries are bounded, for a sum of two of them may not be, and what bounds them is that an operator is orthogonal.
 
 #![tactic(auto)]
 
@@ -60,7 +60,8 @@ pub fn row_mask(m: &[i64; 36], r: usize) -> u8
 }
 
 // A matrix of 36 whole numbers, row by row, with an exponent k (document 01, "Operators"): it stands for the matrix over root two to the power k.
-// That it is orthogonal, of an exponent of at most 60, is a clause where it is asked for: the definitions have the same record for every operator.
+// That it is orthogonal, of an exponent of at most 60, is a clause where it is asked for: an operator that is read is tested here, a product of two is
+// orthogonal by a theorem and may have 61 before 9 is asked (`read_letter` of `gate`), and the definitions have the same record for them all.
 #[derive(Clone, Copy, Debug, PartialEq, Eq)]
 pub struct Scaled {
     pub exponent: u8,

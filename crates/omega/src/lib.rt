@@ -12,7 +12,8 @@ ghost use Rattle.omega.specs.Modular.{remainder, residue_of, Residues, first_col
 
 use letter::Gate;
 
-// The powers of 14. The sixteenth is 1 again.
+// A residue is a number, and that it is below 17 a clause: the definitions (`undone`, `first_column`) are of numbers, and a type would be taken apart for
+// each of them. The powers of 14. The sixteenth is 1 again.
 const ROOT_POWERS: [u64; 16] = [1, 14, 9, 7, 13, 12, 15, 6, 16, 3, 8, 10, 4, 5, 2, 11];
 
 // 14 to the power k.

@@ -2,9 +2,10 @@
 
 #![tactic(auto)]
 
-ghost use Rattle.std.specs.Prelude.{◌≡◌, ◌+◌, ◌≤◌, length, take};
+ghost use Rattle.std.specs.Prelude.{◌≡◌, ◌+◌, ◌≤◌, length};
 ghost use Rattle.refusal.specs.Refusal.{numbered};
 ghost use Rattle.file.specs.File.{written};
+ghost use Rattle.reduction.specs.Taken.{numbers_in};
 ghost use Rattle.sheet_bytes.specs.Bytes.{shortest, sheet_bytes};
 ghost use Rattle.operator.specs.Promise.{SheetPromise, GatesPromise};
 
@@ -14,7 +15,7 @@ use refusal::Refusal;
 // The sheet of a normal form, at the front of `out`; the bytes past it stay.
 fn write_sheet(cut: &Cut, out: &mut [u8])
     requires { cut.now.count + shortest ≤ length out.old }
-    ensures { out.new ≡ written out.old (sheet_bytes (take cut.now.count cut.now.numbers) cut.now.columns) }
+    ensures { out.new ≡ written out.old (sheet_bytes (numbers_in cut.now) cut.now.columns) }
 {
     let end = cut.count as usize + sheet_bytes::SHORTEST;
     for n in 0..end {

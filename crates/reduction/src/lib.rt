@@ -23,8 +23,8 @@ pub struct Step {
 }
 
 // What a reduction gives: the generators' numbers, of which the first `count` count, how many of these cuts were loose, and the matrix that remains.
-// The array has all sixty bytes, since `WholeOf` says that those behind the count are 0. A type parameter for what remains, here and in `Cut`, would give
-// a matrix and six columns one name.
+// The array has all sixty bytes, since `WholeOf` says that those behind the count are 0. `Cut` has the same but for what remains: a struct of the three
+// fields inside both would make each name of a field two, and a type parameter would give a matrix and six columns one name.
 #[derive(Clone, Copy, Debug, PartialEq, Eq)]
 pub struct Normal {
     pub count: u8,
@@ -34,6 +34,7 @@ pub struct Normal {
 }
 
 // A normal form: the generators' numbers, of which the first `count` count, how many of the cuts were loose, and the columns of the Clifford that remains.
+// `CutFrom` says of its array what `WholeOf` says of that of `Normal`.
 #[derive(Clone, Copy, Debug, PartialEq, Eq)]
 pub struct Cut {
     pub count: u8,

@@ -2,7 +2,7 @@
 
 #![tactic(auto)]
 
-ghost use Rattle.std.specs.Prelude.{true, ◌≡◌, ◌+◌, ◌≤◌, length, take};
+ghost use Rattle.std.specs.Prelude.{true, ◌≡◌, ◌+◌, ◌≤◌, length};
 ghost use Rattle.refusal.specs.Refusal.{numbered};
 ghost use Rattle.matrix.specs.List.{same_list};
 ghost use Rattle.matrix.specs.Matrix.{listed};
@@ -11,6 +11,7 @@ ghost use Rattle.matrix.specs.Array.{operator_of};
 ghost use Rattle.clifford.specs.Columns.{are_permutation, columns_matrix};
 ghost use Rattle.reduction.specs.Reduction.{normal_form};
 ghost use Rattle.reduction.specs.Laws.NormalForm.{Numbers};
+ghost use Rattle.reduction.specs.Taken.{numbers_in};
 ghost use Rattle.sheet_bytes.specs.Bytes.{sheet_bytes};
 ghost use Rattle.sheet.specs.Promise.{CutAgain, SheetRead, OperatorPromise};
 
@@ -33,7 +34,7 @@ fn multiplied(numbers: &[u8], columns: [u8; 6]) -> [i64; 36]
 
 // Whether the bytes are the sheet of a normal form.
 fn is_sheet(bytes: &[u8], cut: &Cut) -> bool
-    ensures { result ≡ same_list (sheet_bytes (take cut.now.count cut.now.numbers) cut.now.columns) bytes.now }
+    ensures { result ≡ same_list (sheet_bytes (numbers_in cut.now) cut.now.columns) bytes.now }
 {
     bytes.len() == cut.count as usize + sheet_bytes::SHORTEST
         && bytes

@@ -2,10 +2,11 @@
 
 #![tactic(auto)]
 
-ghost use Rattle.std.specs.Prelude.{true, not, cond, ◌≡◌, ◌+◌, ◌≤◌, ◌<◌, length, get_or, take};
+ghost use Rattle.std.specs.Prelude.{true, not, cond, ◌≡◌, ◌+◌, ◌≤◌, ◌<◌, length, get_or};
 ghost use Rattle.matrix.specs.Range.{every};
 ghost use Rattle.refusal.specs.Refusal.{numbered, refusal_of};
 ghost use Rattle.clifford.specs.Columns.{are_column_bytes, signed};
+ghost use Rattle.reduction.specs.Taken.{numbers_in};
 ghost use Rattle.sheet_bytes.specs.Bytes.{shortest, longest, sign_byte, sheet_bytes, sheet_columns};
 ghost use Rattle.sheet_bytes.specs.Sheet.{is_counted, is_number, is_clifford, has_wrong_sign, bytes_refusal};
 
@@ -27,7 +28,7 @@ fn sign_byte(columns: [u8; 6]) -> u8
 // Byte n of the sheet of a normal form.
 pub fn sheet_byte(cut: &Cut, n: usize) -> u8
     requires { n < cut.now.count + shortest }
-    ensures { result ≡ get_or (sheet_bytes (take cut.now.count cut.now.numbers) cut.now.columns) n 0 }
+    ensures { result ≡ get_or (sheet_bytes (numbers_in cut.now) cut.now.columns) n 0 }
 {
     if n == 0 {
         return 64 + cut.count;

@@ -8,7 +8,8 @@ ghost use Rattle.unitary_gates.specs.Promise.{UnitaryPromise};
 use refusal::Refusal;
 use unitary_file::Entries;
 
-// What the call answers: the count with the number of letters written, L and the power of ω.
+// What the call answers: the count with the number of letters written, L and the power of ω. `Listed` of `operator` has a sign in the place of the power:
+// 0 to 7 is no sign, and each promise names its own.
 #[derive(Clone, Copy, Debug, PartialEq, Eq)]
 pub struct Synthesis {
     pub count: u8,

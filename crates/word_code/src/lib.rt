@@ -9,7 +9,7 @@ ghost use Rattle.word_code.specs.Writer.{WritesWord};
 
 use text::Writer;
 
-// The letter of an octal digit.
+// The letter of an octal digit, 0 of one that is none; no `Option`, since the definition `letter_at` has the 0.
 fn letter_at(digit: u64) -> u8
     ensures { result ≡ letter_at digit }
 {

@@ -21,7 +21,7 @@ take_layer-layer-requires c =
     let on = turn_on_two b c.requires.0 l.n (omega arith) in
     let m = turn_small b c.requires.0 l.n (omega arith) in
     let e = turn_layer b c.requires.0 l.n (omega arith) l.free l.layers l.invariant.0 in
-    (l.invariant.0.each.size, on.first, on.second, omega arith)
+    (on.first, on.second, omega arith)
 
 pub overflow_add-layer : goal.overflow_add-layer
 overflow_add-layer c =
