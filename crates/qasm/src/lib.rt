@@ -39,32 +39,17 @@ pub const CZ: [u8; 14] = *b"cz q[0],q[1];\n";
 
 pub const CS: [u8; LONGEST_STATEMENT] = *b"cu1(pi/2) q[0],q[1];\n";
 
-// How many bytes a statement has.
-fn statement_length(g: Gate) -> usize
-    ensures { result ≡ length (statement g) }
+// The line of a gate.
+fn statement(g: Gate) -> &'static [u8]
+    ensures { result.now ≡ statement g }
 {
     match g {
-        Gate::H1 => H_FIRST.len(),
-        Gate::H2 => H_SECOND.len(),
-        Gate::S1 => S_FIRST.len(),
-        Gate::S2 => S_SECOND.len(),
-        Gate::Cz => CZ.len(),
-        Gate::Cs => CS.len(),
-    }
-}
-
-// A statement.
-fn write_statement(g: Gate, w: &mut Writer<'_>)
-    requires { Room (statement g) w.old }
-    ensures { Writes (statement g) w.old w.new }
-{
-    match g {
-        Gate::H1 => w.bytes(&H_FIRST),
-        Gate::H2 => w.bytes(&H_SECOND),
-        Gate::S1 => w.bytes(&S_FIRST),
-        Gate::S2 => w.bytes(&S_SECOND),
-        Gate::Cz => w.bytes(&CZ),
-        Gate::Cs => w.bytes(&CS),
+        Gate::H1 => &H_FIRST,
+        Gate::H2 => &H_SECOND,
+        Gate::S1 => &S_FIRST,
+        Gate::S2 => &S_SECOND,
+        Gate::Cz => &CZ,
+        Gate::Cs => &CS,
     }
 }
 
@@ -74,9 +59,9 @@ fn text_length(letters: &[u8]) -> Result<usize, Refusal>
     ensures { numbered result ≡ size text_of (letters_of letters.now) }
 {
     let mut n = FIRST_LENGTH;
-    for i in (0..letters.len()).rev() {
-        let g = Gate::try_from(letters[i])?;
-        n += statement_length(g);
+    for &b in letters.iter().rev() {
+        let g = Gate::try_from(b)?;
+        n += statement(g).len();
     }
     Ok(n)
 }
@@ -87,7 +72,7 @@ fn write_letter(b: u8, w: &mut Writer<'_>)
     ensures { Writes (line_of (gate_of b)) w.old w.new }
 {
     if let Ok(g) = Gate::try_from(b) {
-        write_statement(g, w);
+        w.bytes(statement(g));
     }
 }
 
@@ -96,8 +81,8 @@ fn write_statements(letters: &[u8], w: &mut Writer<'_>)
     requires { Room (body_of letters.now) w.old }
     ensures { Writes (body_of letters.now) w.old w.new }
 {
-    for i in (0..letters.len()).rev() {
-        write_letter(letters[i], w);
+    for &b in letters.iter().rev() {
+        write_letter(b, w);
     }
 }
 

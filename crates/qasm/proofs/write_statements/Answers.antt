@@ -1,40 +1,54 @@
 use mathlib.Core.Path.{◌≡◌, sym, ap, ◌∙◌}
-use mathlib.Core.List.{List, ◌++◌}
-use Prim.Native.Nat.{ℕ, ◌+◌, ◌-◌, ◌≤◌, ◌<◌}
+use mathlib.Core.List.{List, [], ◌∷◌, ◌++◌, append-nil}
+use Prim.Native.Nat.{ℕ, ◌+◌, ◌≤◌}
 use native.Mathlib.Omega.{arith}
-use lib.ListN.{length, get_or, drop, length-append}
-use lib.Seq.{drop-length}
+use lib.ListN.{length, length-append}
+use Rattle.std.specs.Iterator.Adapters.{rev_source}
+use Rattle.std.specs.Slice.Iter.{iter_rest}
 use Rattle.letter.specs.Gate.{gate_of}
 use Rattle.text.specs.Writer.{Room, Writes}
 use Rattle.text.specs.declared.Writer.{Writer}
 use Rattle.text.specs.Laws.Writer.{writes_none, writes_as, room_after, writes_append}
 use Rattle.qasm.specs.Reading.{line_of, body_of}
-use Rattle.qasm.specs.Laws.Writing.{body_next, body_room}
+use Rattle.qasm.specs.Laws.Writing.{one_back, none_left, body_room}
+use Rattle.qasm.proofs.write_statements.Invariants.{Going}
 use Rattle.qasm.proofs.write_statements.Goals as goal
 
--- a turn at the letter i - 1
-module _ (bs : List ℕ) (i : ℕ) (h : 0 < i) (n : i ≤ length bs) where
-  again : body_of (drop (i - 1) bs) ≡ body_of (drop i bs) ++ line_of (gate_of (get_or bs (i - 1) 0))
-  again =
-      let e : i - 1 + 1 ≡ i = omega arith in
-      body_next bs (i - 1) (omega arith) ∙ ap (λ k. body_of (drop k bs) ++ line_of (gate_of (get_or bs (i - 1) 0))) e
-
-  module _ {old new : Writer} (s : Writes (body_of (drop i bs)) old new) (fits : Room (body_of bs) old) where
-    room : Room (line_of (gate_of (get_or bs (i - 1) 0))) new
-    room =
-        let r = body_room bs (i - 1) in
-        let m = ap length again ∙ length-append (body_of (drop i bs)) (line_of (gate_of (get_or bs (i - 1) 0))) in
-        room_after s _ (omega arith)
-
-    turn : {last : Writer} → Writes (line_of (gate_of (get_or bs (i - 1) 0))) new last → Writes (body_of (drop (i - 1) bs)) old last
-    turn a = let r = body_room bs i in writes_as (writes_append s (omega arith) a) (sym again)
-
-pub loop-i-init : goal.loop-i-init
+start : {bs left : List ℕ} (w : Writer) → left ≡ bs → Going bs left w w
 unfolding body_of
-loop-i-init c = writes_as (writes_none _) (sym (ap body_of (drop-length c.args.letters.now)))
+start {left = left} w e = record { behind = []; are = sym (append-nil left ∙ e); writes = writes_none w }
+
+-- a turn at the last letter that is left
+module _ {bs left : List ℕ} (front : List ℕ) (b : ℕ) (last : left ≡ front ++ b ∷ []) {old new : Writer} (s : Going bs left old new) (fits : Room (body_of bs) old) where
+  long : length (body_of s.behind) + length (line_of (gate_of b)) ≤ length (body_of bs)
+  unfolding body_of
+  long =
+      let r = body_room front (b ∷ s.behind) in
+      let m = ap (λ l. length (body_of l)) (one_back s.behind front b s.are last) in
+      let l = length-append (body_of s.behind) (line_of (gate_of b)) in
+      omega arith
+
+  room : Room (line_of (gate_of b)) new
+  room = let l = long in room_after s.writes _ (omega arith)
+
+  turn : {end : Writer} → Writes (line_of (gate_of b)) new end → Going bs front old end
+  unfolding body_of
+  turn a =
+      let l = long in
+      record { behind = b ∷ s.behind; are = one_back s.behind front b s.are last; writes = writes_append s.writes (omega arith) a }
+
+pub loop-b-init : goal.loop-b-init
+loop-b-init c =
+    let e = c.into_iter-b-iterator.ensures.into_iter_gives in
+    start _ (ap (λ r. iter_rest (rev_source r)) e ∙ ap iter_rest c.rev-b-items.ensures.source ∙ c.iter.ensures.rest)
 
 pub write_letter-requires : goal.write_letter-requires
-write_letter-requires c = room c.args.letters.now c.loop-i.i (omega arith) (omega arith) c.loop-i.invariant c.requires
+write_letter-requires c = room _ _ c.in-Some.ensures.steps c.loop-b.invariant c.requires
 
-pub loop-i-preserved : goal.loop-i-preserved
-loop-i-preserved c = turn c.args.letters.now c.loop-i.i (omega arith) (omega arith) c.loop-i.invariant c.requires c.write_letter.ensures
+pub loop-b-preserved : goal.loop-b-preserved
+loop-b-preserved c = turn _ _ c.in-Some.ensures.steps c.loop-b.invariant c.requires c.write_letter.ensures
+
+pub returns : goal.returns
+returns c =
+    let s = c.loop-b.invariant in
+    writes_as s.writes (ap body_of (sym (none_left _ s.behind s.are c.in-None.ensures.steps.0)))

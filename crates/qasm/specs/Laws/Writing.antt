@@ -1,6 +1,8 @@
 -- The text of a list, from its letters.
-use Rattle.std.specs.Prelude.{◌≡◌, refl, ℕ, zero, suc, ◌+◌, ◌*◌, ◌≤◌, ◌<◌, length, get_or, drop, Option, Some, None}
-use Rattle.std.proofs.Common.{sym, ap, ◌∙◌, add-one, arith, length-append, drop-cons, lt-ltb, le-ltb}
+use Rattle.std.specs.Prelude.{◌≡◌, refl, ℕ, ◌+◌, ◌*◌, ◌≤◌, ◌<◌, length, Option, Some, None}
+use Rattle.std.proofs.Common.{sym, ap, ◌∙◌, arith, length-append, lt-ltb, le-ltb}
+use Rattle.std.proofs.lemmas.List.{nil_from_length}
+use Rattle.std.proofs.Math.Seq.{append_snoc}
 use mathlib.Core.List.{List, [], ◌∷◌, ◌++◌, flatten}
 use Rattle.letter.specs.declared.Gate.{Gate}
 use Rattle.letter.specs.declared.Gate.TheVariants.{H1, H2, S1, S2, Cz, Cs}
@@ -47,32 +49,26 @@ body_of_lem (b ∷ bs) w e = go (gate_of b) (letters_of bs) (body_of_lem bs) e
 
 -- ---- from the last letter to the first
 
-pub letters_next : (bs : List ℕ) (i : ℕ) → i < length bs → letters_of (drop i bs) ≡ before (gate_of (get_or bs i 0)) (letters_of (drop (i + 1) bs))
-unfolding letters_of
-letters_next bs i h = rw (drop-cons bs i 0 h, add-one i)
+pub one_back : {bs left : List ℕ} (behind front : List ℕ) (b : ℕ) → bs ≡ left ++ behind → left ≡ front ++ b ∷ [] → bs ≡ front ++ b ∷ behind
+one_back behind front b are e = are ∙ ap (λ l. l ++ behind) e ∙ append_snoc front b behind
+
+pub none_left : {bs : List ℕ} (left behind : List ℕ) → bs ≡ left ++ behind → length left ≡ 0 → bs ≡ behind
+none_left left behind are z = are ∙ ap (λ l. l ++ behind) (nil_from_length left z)
 
 -- a byte that is no letter, wherever it stands
-pub letters_unknown : (bs : List ℕ) (i : ℕ) → letters_of (drop i bs) ≡ refusal 8 → letters_of bs ≡ refusal 8
+pub letters_unknown : (front bs : List ℕ) → letters_of bs ≡ refusal 8 → letters_of (front ++ bs) ≡ refusal 8
 unfolding letters_of
-letters_unknown [] zero e = e
-letters_unknown [] (suc i) e = e
-letters_unknown (b ∷ bs) zero e = e
-letters_unknown (b ∷ bs) (suc i) e = go (gate_of b) (letters_unknown bs i e)
+letters_unknown [] bs e = e
+letters_unknown (b ∷ front) bs e = go (gate_of b) (letters_unknown front bs e)
   where
-    go : (l : Option Gate) → letters_of bs ≡ refusal 8 → before l (letters_of bs) ≡ refusal 8
+    go : (l : Option Gate) → letters_of (front ++ bs) ≡ refusal 8 → before l (letters_of (front ++ bs)) ≡ refusal 8
     go None f = refl
     go (Some g) f = ap (before (Some g)) f
 
-pub body_next : (bs : List ℕ) (i : ℕ) → i < length bs → body_of (drop i bs) ≡ body_of (drop (i + 1) bs) ++ line_of (gate_of (get_or bs i 0))
+pub body_room : (front bs : List ℕ) → length (body_of bs) ≤ length (body_of (front ++ bs))
 unfolding body_of
-body_next bs i h = rw (drop-cons bs i 0 h, add-one i)
-
-pub body_room : (bs : List ℕ) (i : ℕ) → length (body_of (drop i bs)) ≤ length (body_of bs)
-unfolding body_of
-body_room [] zero = omega arith
-body_room [] (suc i) = omega arith
-body_room (b ∷ bs) zero = omega arith
-body_room (b ∷ bs) (suc i) = let h = body_room bs i in let l = length-append (body_of bs) (line_of (gate_of b)) in omega arith
+body_room [] bs = omega arith
+body_room (b ∷ front) bs = let h = body_room front bs in let l = length-append (body_of (front ++ bs)) (line_of (gate_of b)) in omega arith
 
 -- ---- the whole text
 
