@@ -1,5 +1,5 @@
 -- A text read from a place on, a statement at a time.
-use Rattle.std.specs.Prelude.{Bool, false, cond, List, [], ◌++◌, ◌≡◌, ℕ, ◌+◌, ◌*◌, ◌≤◌, ◌<◌, ltb, length, take, drop, Option, Some, None}
+use Rattle.std.specs.Prelude.{Bool, false, cond, List, [], ◌++◌, ◌≡◌, ℕ, ◌+◌, ◌*◌, ◌≤◌, ◌<◌, length, take, drop, Option, Some, None, option_map}
 use Rattle.matrix.specs.List.{same_list}
 use Rattle.letter.specs.declared.Gate.{Gate}
 use Rattle.gate.specs.Reading.{Reading, gates, refusal}
@@ -12,9 +12,9 @@ use Rattle.qasm_read.specs.declared.Statements.{Statements}
 abbrev pub begins : List ℕ → List ℕ → Bool
 begins bs l = same_list (take (length l) bs) l
 
--- the place after a line that stands at `at`, or `at`
-abbrev pub after_line : List ℕ → ℕ → List ℕ → ℕ
-after_line bs at l = cond (begins (drop at bs) l) (at + length l) at
+-- the place after a line, if it stands at `at`
+abbrev pub place_after : List ℕ → ℕ → List ℕ → Option ℕ
+place_after bs at l = cond (begins (drop at bs) l) (Some (at + length l)) None
 
 -- what the bytes from a place on are read as
 abbrev pub read_from : List ℕ → ℕ → Reading
@@ -48,7 +48,7 @@ LineAt bs at None = NoStatement (drop at bs)
 
 -- a gate's statement, where its line l stands at a place
 abbrev pub line_at : List ℕ → ℕ → List ℕ → Gate → Option Statement
-line_at bs at l g = cond (ltb at (after_line bs at l)) (Some (record { gate = g; end = after_line bs at l })) None
+line_at bs at l g = option_map (λ end. record { gate = g; end = end }) (place_after bs at l)
 
 -- ---- statements one after the other
 

@@ -1,6 +1,6 @@
 // Gate lists read from OpenQASM 2.0 text (document 02, P8): refusals 23, 7 and 6. The contracts cite specs/ and those of `qasm`.
 //
-// A place in a text stays a number, and what is behind it no slice: `after_line`, `LineAt` and `StatementsFrom` speak of the place, and `read_qasm` asks
+// A place in a text stays a number, and what is behind it no slice: `place_after`, `LineAt` and `StatementsFrom` speak of the place, and `read_qasm` asks
 // for it to keep the bytes from there on.
 
 #![tactic(auto)]
@@ -10,7 +10,7 @@ ghost use Rattle.refusal.specs.Refusal.{numbered};
 ghost use Rattle.file.specs.File.{written};
 ghost use Rattle.letter.specs.Gate.{letter};
 ghost use Rattle.qasm.specs.Promise.{size, LettersPromise};
-ghost use Rattle.qasm_read.specs.Statements.{after_line, line_at, read_from, list_in, LineAt, StatementsFrom};
+ghost use Rattle.qasm_read.specs.Statements.{place_after, line_at, read_from, list_in, LineAt, StatementsFrom};
 
 use letter::Gate;
 use refusal::Refusal;
@@ -34,21 +34,21 @@ const CZ_REVERSED: [u8; 14] = *b"cz q[1],q[0];\n";
 
 const CS_REVERSED: [u8; qasm::LONGEST_STATEMENT] = *b"cu1(pi/2) q[1],q[0];\n";
 
-// The place after a line that stands at a place, or that place itself: it can't fail, so it answers no `Option`.
+// The place after a line, if it stands at a place.
 // Byte by byte, since a text takes more than twice the instructions with `starts_with`.
-pub fn after(text: &[u8], at: usize, line: &[u8]) -> usize
+pub fn after(text: &[u8], at: usize, line: &[u8]) -> Option<usize>
     requires { at ≤ length text.now }
-    ensures { result ≡ after_line text.now at line.now }
+    ensures { result ≡ place_after text.now at line.now }
 {
     if text.len() - at < line.len() {
-        return at;
+        return None;
     }
     for i in 0..line.len() {
         if text[at + i] != line[i] {
-            return at;
+            return None;
         }
     }
-    at + line.len()
+    Some(at + line.len())
 }
 
 // A gate's statement by one of its lines, if the line stands at a place.
@@ -56,11 +56,7 @@ fn line_at(text: &[u8], at: usize, line: &[u8], gate: Gate) -> Option<Statement>
     requires { at ≤ length text.now }
     ensures { result ≡ line_at text.now at line.now gate }
 {
-    let end = after(text, at, line);
-    if at < end {
-        return Some(Statement { gate, end });
-    }
-    None
+    after(text, at, line).map(|end| Statement { gate, end })
 }
 
 // The statement that stands at a place.
@@ -120,10 +116,9 @@ fn write_letters(text: &[u8], at: usize, count: usize, out: &mut [u8])
 pub fn qasm_to_gates(text: &[u8], out: &mut [u8]) -> Result<usize, Refusal>
     ensures { LettersPromise text.now out.old out.new (numbered result) }
 {
-    let first = after(text, 0, &qasm::FIRST_LINES);
-    if first == 0 {
+    let Some(first) = after(text, 0, &qasm::FIRST_LINES) else {
         return Err(Refusal::Line);
-    }
+    };
     let read = statements_from(text, first);
     if read.end < text.len() {
         return Err(Refusal::Line);

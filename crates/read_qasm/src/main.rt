@@ -38,10 +38,7 @@ fn start_of(text: &[u8]) -> Option<usize>
     requires { longer ≤ length text.now }
     ensures { StartOf text.now result }
 {
-    let first = qasm_read::after(text, 0, &qasm::FIRST_LINES);
-    if first == 0 {
-        return None;
-    }
+    let first = qasm_read::after(text, 0, &qasm::FIRST_LINES)?;
     let read = qasm_read::statements_from(text, first);
     let end = read.end;
     if end <= qasm::LONGEST_TEXT {

@@ -1,4 +1,5 @@
 -- The invariant: the bytes from i on decide.
+use Rattle.std.specs.Prelude.{Some, None}
 use mathlib.Core.Path.{◌≡◌, sym, ap, ap₂, ◌∙◌}
 use mathlib.Core.Bool.{cond, ◌&&◌}
 use mathlib.Core.List.{List}
@@ -28,7 +29,7 @@ module _ (bs : List ℕ) (at : ℕ) (l : List ℕ) where
         let d = length-drop at bs in
         s.rest ∙ begins_next (drop at bs) l i (omega arith) h ∙ ap (λ x. eqb x (get_or l i 0) && begins (drop (i + 1) (drop at bs)) (drop (i + 1) l)) (get_or-drop at bs i 0)
 
-    pub other : (get_or bs (at + i) 0 ≡ get_or l i 0 → ⊥) → at ≡ cond (begins (drop at bs) l) (at + length l) at
+    pub other : (get_or bs (at + i) 0 ≡ get_or l i 0 → ⊥) → None ≡ cond (begins (drop at bs) l) (Some (at + length l)) None
     other n = rw (next, ne_eqb (get_or bs (at + i) 0) (get_or l i 0) n)
 
     pub turn : get_or bs (at + i) 0 ≡ get_or l i 0 → Going (i + 1)

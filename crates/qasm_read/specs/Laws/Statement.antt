@@ -12,7 +12,7 @@ use Rattle.qasm.specs.Text.{statement, reversed, longest_statement}
 use Rattle.qasm.specs.Reading.{lines, statement_of, earlier, statements}
 use Rattle.qasm.specs.Laws.Lines.{FirstLine, first_line, statement_line, reversed_line, statement_of_lem, reversed_of, forms}
 use Rattle.qasm.specs.Laws.Writing.{statement_long}
-use Rattle.qasm_read.specs.Statements.{begins, after_line, StatementAt, NoStatement}
+use Rattle.qasm_read.specs.Statements.{begins, place_after, StatementAt, NoStatement}
 
 -- ---- a line at a place
 
@@ -51,34 +51,35 @@ reversed_long S2 = (omega arith, refl)
 reversed_long Cz = (omega arith, refl)
 reversed_long Cs = (omega arith, refl)
 
-pub after_begins : (bs : List ℕ) (at : ℕ) (l : List ℕ) (r : ℕ) → r ≡ after_line bs at l → at < r → (begins (drop at bs) l ≡ true) × (r ≡ at + length l)
-after_begins bs at l r = go (begins (drop at bs) l)
-  where
-    go : (t : Bool) → r ≡ cond t (at + length l) at → at < r → (t ≡ true) × (r ≡ at + length l)
-    go true e h = (refl, e)
-    go false e h = absurd (omega arith)
+module _ (bs : List ℕ) (at : ℕ) (l : List ℕ) where
+  pub after_begins : (r : ℕ) → Some r ≡ place_after bs at l → (begins (drop at bs) l ≡ true) × (r ≡ at + length l)
+  after_begins r = go (begins (drop at bs) l)
+    where
+      go : (t : Bool) → Some r ≡ cond t (Some (at + length l)) None → (t ≡ true) × (r ≡ at + length l)
+      go true e = (refl, cc)
+      go false e = let z : ◌≡◌ {A = ℕ} 0 1 = cc in absurd (omega arith)
 
-pub after_none : (bs : List ℕ) (at : ℕ) (l : List ℕ) (r : ℕ) → r ≡ after_line bs at l → 0 < length l → r ≤ at → begins (drop at bs) l ≡ false
-after_none bs at l r e h n = go (begins (drop at bs) l) e
-  where
-    go : (t : Bool) → r ≡ cond t (at + length l) at → t ≡ false
-    go true e = absurd (omega arith)
-    go false e = refl
+  pub after_none : None ≡ place_after bs at l → begins (drop at bs) l ≡ false
+  after_none = go (begins (drop at bs) l)
+    where
+      go : (t : Bool) → ◌≡◌ {A = Option ℕ} None (cond t (Some (at + length l)) None) → t ≡ false
+      go true e = let z : ◌≡◌ {A = ℕ} 0 1 = cc in absurd (omega arith)
+      go false e = refl
 
 module _ (bs : List ℕ) (at : ℕ) (h : at ≤ length bs) (g : Gate) (end : ℕ) where
-  stood : (l : List ℕ) → Form l g → end ≡ after_line bs at l → at < end → StatementAt bs at g end
-  stood l f e n =
-      let (t, r) = after_begins bs at l end e n in
+  stood : (l : List ℕ) → Form l g → Some end ≡ place_after bs at l → StatementAt bs at g end
+  stood l f e =
+      let (t, r) = after_begins bs at l end e in
       subst (StatementAt bs at g) (sym r) (stands bs at l g f h t)
 
-  pub statement_stands : end ≡ after_line bs at (statement g) → at < end → StatementAt bs at g end
-  statement_stands e n = stood (statement g) (record { of = statement_of_lem g; whole = statement_line g; more = (reversed_long g).0; short = statement_long g }) e n
+  pub statement_stands : Some end ≡ place_after bs at (statement g) → StatementAt bs at g end
+  statement_stands e = stood (statement g) (record { of = statement_of_lem g; whole = statement_line g; more = (reversed_long g).0; short = statement_long g }) e
 
-  pub reversed_stands : end ≡ after_line bs at (reversed g) → at < end → StatementAt bs at g end
-  reversed_stands e n =
+  pub reversed_stands : Some end ≡ place_after bs at (reversed g) → StatementAt bs at g end
+  reversed_stands e =
       let m = reversed_long g in
       let s = statement_long g in
-      stood (reversed g) (record { of = reversed_of g; whole = reversed_line g; more = omega arith; short = omega arith }) e n
+      stood (reversed g) (record { of = reversed_of g; whole = reversed_line g; more = omega arith; short = omega arith }) e
 
 -- ---- no line of the table
 
@@ -112,30 +113,30 @@ no_statement_more bs rest h n = record {
     still l k t = ap (λ d. same_list d l) (take-append-le (length l) bs rest k) ∙ t
 
 -- the eight lines of the table
-pub none : (bs : List ℕ) (at : ℕ) {a b c d e f g h : ℕ}
-    → a ≡ after_line bs at (statement H1) → a ≤ at
-    → b ≡ after_line bs at (statement H2) → b ≤ at
-    → c ≡ after_line bs at (statement S1) → c ≤ at
-    → d ≡ after_line bs at (statement S2) → d ≤ at
-    → e ≡ after_line bs at (statement Cz) → e ≤ at
-    → f ≡ after_line bs at (reversed Cz) → f ≤ at
-    → g ≡ after_line bs at (statement Cs) → g ≤ at
-    → h ≡ after_line bs at (reversed Cs) → h ≤ at
+pub none : (bs : List ℕ) (at : ℕ)
+    → None ≡ place_after bs at (statement H1)
+    → None ≡ place_after bs at (statement H2)
+    → None ≡ place_after bs at (statement S1)
+    → None ≡ place_after bs at (statement S2)
+    → None ≡ place_after bs at (statement Cz)
+    → None ≡ place_after bs at (reversed Cz)
+    → None ≡ place_after bs at (statement Cs)
+    → None ≡ place_after bs at (reversed Cs)
     → NoStatement (drop at bs)
-none bs at ea na eb nb ec nc ed nd ee ne ef nf eg ng eh nh = record { written = written; turned = turned }
+none bs at a b c d e f g h = record { written = written; turned = turned }
   where
     written : (g : Gate) → begins (drop at bs) (statement g) ≡ false
-    written H1 = after_none bs at (statement H1) _ ea (omega arith) na
-    written H2 = after_none bs at (statement H2) _ eb (omega arith) nb
-    written S1 = after_none bs at (statement S1) _ ec (omega arith) nc
-    written S2 = after_none bs at (statement S2) _ ed (omega arith) nd
-    written Cz = after_none bs at (statement Cz) _ ee (omega arith) ne
-    written Cs = after_none bs at (statement Cs) _ eg (omega arith) ng
+    written H1 = after_none bs at (statement H1) a
+    written H2 = after_none bs at (statement H2) b
+    written S1 = after_none bs at (statement S1) c
+    written S2 = after_none bs at (statement S2) d
+    written Cz = after_none bs at (statement Cz) e
+    written Cs = after_none bs at (statement Cs) g
 
     turned : (g : Gate) → begins (drop at bs) (reversed g) ≡ false
     turned H1 = written H1
     turned H2 = written H2
     turned S1 = written S1
     turned S2 = written S2
-    turned Cz = after_none bs at (reversed Cz) _ ef (omega arith) nf
-    turned Cs = after_none bs at (reversed Cs) _ eh (omega arith) nh
+    turned Cz = after_none bs at (reversed Cz) f
+    turned Cs = after_none bs at (reversed Cs) h

@@ -1,5 +1,5 @@
 -- Statements one after the other.
-use Rattle.std.specs.Prelude.{◌≡◌, refl, true, false, ◌⊎◌, ◌≢◌, ℕ, ◌≤◌, ◌<◌, T, length, take, drop, Some}
+use Rattle.std.specs.Prelude.{◌≡◌, refl, true, false, ◌⊎◌, ℕ, ◌≤◌, ◌<◌, T, length, take, drop, Some, None}
 use Rattle.std.proofs.Common.{sym, subst, ◌∙◌, inl, inr, arith, take-append-drop, length-drop, drop_of_length-le, lt-ltb, le-ltb}
 use Rattle.std.proofs.Math.Path.{ap}
 use mathlib.Core.List.{List, [], ◌∷◌, ◌++◌, flatten, append_assoc, append-nil}
@@ -11,7 +11,7 @@ use Rattle.qasm.specs.Reading.{lines, earlier, statements, after_lines, read_tex
 use Rattle.qasm.specs.Laws.Lines.{first_lines_lem, joined_lines, After, after_cases}
 use Rattle.qasm.specs.Laws.Writing.{length_first}
 use Rattle.qasm_read.specs.declared.Statements.{Statements}
-use Rattle.qasm_read.specs.Statements.{begins, followed, StatementsFrom, after_line}
+use Rattle.qasm_read.specs.Statements.{begins, followed, StatementsFrom, place_after}
 use Rattle.qasm_read.specs.Laws.Statement.{begins_long, after_begins, after_none, no_statement}
 
 -- ---- a statement more
@@ -42,13 +42,13 @@ module _ (bs : List ℕ) (at : ℕ) (r : Statements) (s : StatementsFrom bs at r
 -- ---- the first three lines
 
 -- by the place after them
-module _ (bs : List ℕ) (first : ℕ) (e : first ≡ after_line bs 0 (flatten first_lines)) where
-  pub not_started : first ≡ 0 → begins bs (flatten first_lines) ≡ false
-  not_started z = after_none bs 0 (flatten first_lines) first e (let l = length_first in omega arith) (omega arith)
+module _ (bs : List ℕ) where
+  pub not_started : None ≡ place_after bs 0 (flatten first_lines) → begins bs (flatten first_lines) ≡ false
+  not_started e = after_none bs 0 (flatten first_lines) e
 
-  pub started : first ≢ 0 → (begins bs (flatten first_lines) ≡ true) × (first ≡ first_length) × (first ≤ length bs)
-  started n =
-      let (t, f) = after_begins bs 0 (flatten first_lines) first e (omega arith) in
+  pub started : (first : ℕ) → Some first ≡ place_after bs 0 (flatten first_lines) → (begins bs (flatten first_lines) ≡ true) × (first ≡ first_length) × (first ≤ length bs)
+  started first e =
+      let (t, f) = after_begins bs 0 (flatten first_lines) first e in
       let l = length_first in
       let m = begins_long bs (flatten first_lines) t in
       (t, omega arith, omega arith)
