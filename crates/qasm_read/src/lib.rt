@@ -92,21 +92,18 @@ pub fn statements_from(text: &[u8], at: usize) -> Statements
 }
 
 // The letters of the statements from a place on, the last statement's first, at the front of `out`.
+// By their places, since a proof knows no element of a slice behind an adapter of `iter_mut`.
 fn write_letters(text: &[u8], at: usize, count: usize, out: &mut [u8])
     requires { (at ≤ length text.now) × (Ok count ≡ size (map letter) (read_from text.now at)) × (count ≤ length out.old) }
     ensures { out.new ≡ written out.old (map letter (list_in (read_from text.now at))) }
 {
     let mut next = at;
-    let mut left = count;
-    while next < text.len() {
-        match statement_at(text, next) {
-            Some(statement) => {
-                left -= 1;
-                out[left] = u8::from(statement.gate);
-                next = statement.end;
-            }
-            None => return,
-        }
+    for left in (0..count).rev() {
+        let Some(statement) = statement_at(text, next) else {
+            return;
+        };
+        out[left] = u8::from(statement.gate);
+        next = statement.end;
     }
 }
 

@@ -19,20 +19,20 @@ begun bs at n old h e =
 fits : (bs old : List ℕ) (at n : ℕ) → (at ≤ length bs) × (Ok n ≡ size (map letter) (read_from bs at)) × (n ≤ length old) → length (list_in (read_from bs at)) ≤ length old
 fits bs old at n p = let (r, l) = list_in_lem (read_from bs at) n p.1 in let f = p.2 in omega arith
 
-pub loop-next-init : goal.loop-next-init
-loop-next-init c =
+pub loop-left-init : goal.loop-left-init
+loop-left-init c =
     let a = c.args in
     let p = c.requires in
     begun a.text.now a.at a.count a.out.now p.0 p.1
 
-pub loop-next-preserved : goal.loop-next-preserved
-loop-next-preserved c =
+pub loop-left-preserved : goal.loop-left-preserved
+loop-left-preserved c =
     let s = c.in-Some.ensures in
-    turn _ _ _ _ _ _ c.loop-next.invariant _ _ s (fits c.args.text.now c.args.out.now c.args.at c.args.count c.requires) c.from.ensures
+    turn _ _ _ _ _ _ c.loop-left.invariant _ _ s (fits c.args.text.now c.args.out.now c.args.at c.args.count c.requires) c.from.ensures
 
-pub returns-in-None : goal.returns-in-None
-returns-in-None c =
-    absurd (never _ _ _ _ _ _ c.loop-next.invariant (omega arith) c.in-None.ensures)
+pub returns-in_default : goal.returns-in_default
+returns-in_default c =
+    absurd (never _ _ _ _ _ _ c.loop-left.invariant (omega arith) c.in_default.ensures)
 
 pub returns : goal.returns
-returns c = finished _ _ _ _ _ _ c.loop-next.invariant (omega arith)
+returns c = finished _ _ _ _ _ _ c.loop-left.invariant (omega arith)

@@ -1,10 +1,10 @@
 -- The letters of a text's statements, written from the last place to the first.
 use Rattle.std.specs.Prelude.{◌≡◌, refl, ℕ, suc, ◌-◌, ◌≤◌, ◌<◌, get_or, take, set, Some, Ok}
 use Rattle.std.proofs.Math.Path.{sym, ap, ap₂}
-use Rattle.std.proofs.Common.{◌∙◌, arith, length-append, length-drop, length-set, take-append-drop, drop_of_length-le, take-suc, length-take-le}
+use Rattle.std.proofs.Common.{◌∙◌, arith, length-append, length-set, take-append-drop, take-suc, length-take-le}
 use mathlib.Core.List.{List, [], ◌∷◌, ◌++◌, map, append-nil, append_assoc}
 use Rattle.std.proofs.Math.ListN.{length, drop}
-use Rattle.std.proofs.lemmas.List.{length-map, set_at}
+use Rattle.std.proofs.lemmas.List.{length-map, nil_from_length, set_at}
 use Rattle.std.proofs.Math.Seq.{append_snoc}
 use Rattle.file.specs.File.{written}
 use Rattle.letter.specs.declared.Gate.{Gate}
@@ -74,7 +74,7 @@ module _ (bs : List ℕ) (w : List Gate) (old : List ℕ) where
       here : Last (read_from bs end) g s.list
       here = last_of (read_from bs end) g s.list (sym (ap (λ d. statements (lines d)) a.stands ∙ a.reads (drop end bs)) ∙ s.is)
 
-      pub left_more : (0 < left) × (left ≤ length w)
+      left_more : (0 < left) × (left ≤ length w)
       left_more =
           let n = s.are in
           let m = ap length s.whole ∙ length-append s.list s.back in
@@ -95,18 +95,26 @@ module _ (bs : List ℕ) (w : List Gate) (old : List ℕ) where
             buffer = ap₂ (λ o y. set o (left - 1) y) s.buffer q ∙ set_before old (map letter s.back) (drop (length w) old) left (letter g) l (omega arith);
           }
 
-    pub never : at < length bs → NoStatement (drop at bs) → ⊥
-    never h n =
-        let e : refusal 23 ≡ gates s.list = sym (no_statement (drop at bs) (let l = length-drop at bs in omega arith) n) ∙ s.is in
-        let z : ◌≡◌ {A = ℕ} 0 1 = cc in
-        omega arith
+    -- where a letter is left, a statement stands
+    pub never : 0 < left → NoStatement (drop at bs) → ⊥
+    unfolding lines statements
+    never h n = go (drop at bs) s.is (no_statement (drop at bs)) n
+      where
+        go : (rest : List ℕ) → statements (lines rest) ≡ gates s.list → (0 < length rest → NoStatement rest → statements (lines rest) ≡ refusal 23) → NoStatement rest → ⊥
+        go [] e f m =
+            let z : s.list ≡ [] = cc in
+            let k = ap length z in
+            let l = s.are in
+            omega arith
+        go (b ∷ rest) e f m =
+            let r : refusal 23 ≡ gates s.list = sym (f (omega arith) m) ∙ e in
+            let z : ◌≡◌ {A = ℕ} 0 1 = cc in
+            omega arith
 
-    pub finished : length bs ≤ at → new ≡ written old (map letter w)
-    unfolding written lines statements
-    finished h =
-        let e : gates [] ≡ gates s.list = sym (ap (λ d. statements (lines d)) (drop_of_length-le bs h)) ∙ s.is in
-        let n : s.list ≡ [] = cc in
-        let z : left ≡ 0 = s.are ∙ ap length n in
+    pub finished : left ≡ 0 → new ≡ written old (map letter w)
+    unfolding written
+    finished z =
+        let n : s.list ≡ [] = nil_from_length s.list (sym s.are ∙ z) in
         let b : w ≡ s.back = s.whole ∙ ap (λ l. l ++ s.back) n in
         s.buffer
         ∙ ap (λ k. (take k old ++ map letter s.back) ++ drop (length w) old) z
