@@ -2,7 +2,7 @@
 
 #![tactic(auto)]
 
-ghost use Rattle.std.specs.Prelude.{◌≡◌, ◌-◌, ◌^◌, ◌<◌, ◌≤◌};
+ghost use Rattle.std.specs.Prelude.{◌≡◌, ◌-◌, ◌^◌, ◌<◌};
 ghost use Rattle.gaussian.specs.Gaussian.{Within, ◌⊗◌, product};
 ghost use Rattle.unitary.specs.Unitary.{Unitary, matrix_of};
 ghost use Rattle.unitary.specs.Form.{row_at, column_at, compound, basis, six_form};
@@ -64,33 +64,25 @@ const I: Gaussian = Gaussian { re: 0, im: 1 };
 
 const MINUS_I: Gaussian = Gaussian { re: 0, im: -1 };
 
-// The basis: the lower place of each matrix, and its entries there and at the complementary place.
+// The basis: of each matrix the lower place, and its entries there and at the complementary place.
 // Wrong, and refused: one place for all; the places of two pairs exchanged; another sign or another phase of an entry.
-const PLACES: [usize; 6] = [0, 0, 2, 1, 1, 2];
+const BASIS: [(usize, Gaussian, Gaussian); 6] = [
+    (0, I, MINUS_I),
+    (0, ONE, ONE),
+    (2, MINUS_I, I),
+    (1, MINUS_ONE, ONE),
+    (1, I, I),
+    (2, ONE, ONE),
+];
 
-const LOWER: [Gaussian; 6] = [I, ONE, MINUS_I, MINUS_ONE, I, ONE];
-
-const UPPER: [Gaussian; 6] = [MINUS_I, ONE, I, ONE, I, ONE];
-
-fn place_of(c: usize) -> usize
+#[tactic(auto, unfolding(unitary::specs::Form::basis))]
+fn basis(c: usize) -> (usize, Gaussian, Gaussian)
     requires { c < 6 }
-    ensures { (result ≡ place_of c) × (result < 3) }
+    ensures place { (result.0 ≡ place_of c) × (result.0 < 3) }
+    ensures lower { (result.1 ≡ basis (place_of c) c) × Within 1 result.1 }
+    ensures upper { (result.2 ≡ basis (5 - place_of c) c) × Within 1 result.2 }
 {
-    PLACES[c]
-}
-
-fn lower(c: usize) -> Gaussian
-    requires { c < 6 }
-    ensures { (result ≡ basis (place_of c) c) × Within 1 result }
-{
-    LOWER[c]
-}
-
-fn upper(c: usize) -> Gaussian
-    requires { c < 6 }
-    ensures { (result ≡ basis (5 - place_of c) c) × Within 1 result }
-{
-    UPPER[c]
+    BASIS[c]
 }
 
 // The minors times the basis: two of the six products count.
@@ -99,9 +91,9 @@ fn half_entry(u: &Entries, p: usize, c: usize) -> Gaussian
     requires { (p < 6) × (c < 6) }
     ensures { (result ≡ product 6 (compound (matrix_of u.now.entries)) basis p c) × Within (2 ^ 34) result }
 {
-    let q = place_of(c);
-    let left = gaussian::times(lower(c), minor(u, p, q));
-    let right = gaussian::times(upper(c), minor(u, p, 5 - q));
+    let (q, lower, upper) = basis(c);
+    let left = gaussian::times(lower, minor(u, p, q));
+    let right = gaussian::times(upper, minor(u, p, 5 - q));
     gaussian::plus(left, right)
 }
 
@@ -111,9 +103,9 @@ fn form_entry(u: &Entries, r: usize, c: usize) -> Gaussian
     requires { (r < 6) × (c < 6) }
     ensures { (result ≡ six_form (matrix_of u.now.entries) r c) × Within (2 ^ 36) result }
 {
-    let p = place_of(r);
-    let left = gaussian::times(gaussian::conjugate(lower(r)), half_entry(u, p, c));
-    let right = gaussian::times(gaussian::conjugate(upper(r)), half_entry(u, 5 - p, c));
+    let (p, lower, upper) = basis(r);
+    let left = gaussian::times(gaussian::conjugate(lower), half_entry(u, p, c));
+    let right = gaussian::times(gaussian::conjugate(upper), half_entry(u, 5 - p, c));
     gaussian::plus(left, right)
 }
 

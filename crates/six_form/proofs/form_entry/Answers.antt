@@ -28,18 +28,18 @@ unit_conj e h = subst (Within 1) (sym e) (within_conj h)
 
 pub plus-requires : goal.plus-requires
 plus-requires c = (
-  within_more (omega arith) (subst (Within (2 ^ 35)) (sym c.times-left.ensures) (within-⊗ (unit_conj c.conjugate.ensures.0 c.lower.ensures.1) c.half_entry.ensures.1)),
-  within_more (omega arith) (subst (Within (2 ^ 35)) (sym c.times-right.ensures) (within-⊗ (unit_conj c.conjugate-2.ensures.0 c.upper.ensures.1) c.half_entry-2.ensures.1)),
+  within_more (omega arith) (subst (Within (2 ^ 35)) (sym c.times-left.ensures) (within-⊗ (unit_conj c.conjugate.ensures.0 c.basis-p.ensures.lower.1) c.half_entry.ensures.1)),
+  within_more (omega arith) (subst (Within (2 ^ 35)) (sym c.times-right.ensures) (within-⊗ (unit_conj c.conjugate-2.ensures.0 c.basis-p.ensures.upper.1) c.half_entry-2.ensures.1)),
 )
 
 pub returns : goal.returns
 returns c =
     let a = c.args in
-    let e = c.place_of-p.ensures.0 in (
+    let e = c.basis-p.ensures.place.0 in (
       c.plus.ensures
           ∙ ap₂ (λ x y. x ⊕ y)
-          (c.times-left.ensures ∙ first_term a.u.now.entries a.r a.c _ e c.conjugate.ensures.0 c.lower.ensures.0 c.half_entry.ensures.0)
-          (c.times-right.ensures ∙ second_term a.u.now.entries a.r a.c _ e c.conjugate-2.ensures.0 c.upper.ensures.0 c.half_entry-2.ensures.0)
+          (c.times-left.ensures ∙ first_term a.u.now.entries a.r a.c _ e c.conjugate.ensures.0 c.basis-p.ensures.lower.0 c.half_entry.ensures.0)
+          (c.times-right.ensures ∙ second_term a.u.now.entries a.r a.c _ e c.conjugate-2.ensures.0 c.basis-p.ensures.upper.0 c.half_entry-2.ensures.0)
           ∙ sym (whole_entry (product 6 (compound (matrix_of a.u.now.entries)) basis) a.r a.c c.requires.0),
-      subst (Within (2 ^ 36)) (sym c.plus.ensures) (within-⊕ (subst (Within (2 ^ 35)) (sym c.times-left.ensures) (within-⊗ (unit_conj c.conjugate.ensures.0 c.lower.ensures.1) c.half_entry.ensures.1)) (subst (Within (2 ^ 35)) (sym c.times-right.ensures) (within-⊗ (unit_conj c.conjugate-2.ensures.0 c.upper.ensures.1) c.half_entry-2.ensures.1))),
+      subst (Within (2 ^ 36)) (sym c.plus.ensures) (within-⊕ (subst (Within (2 ^ 35)) (sym c.times-left.ensures) (within-⊗ (unit_conj c.conjugate.ensures.0 c.basis-p.ensures.lower.1) c.half_entry.ensures.1)) (subst (Within (2 ^ 35)) (sym c.times-right.ensures) (within-⊗ (unit_conj c.conjugate-2.ensures.0 c.basis-p.ensures.upper.1) c.half_entry-2.ensures.1))),
     )

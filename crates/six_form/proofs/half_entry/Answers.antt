@@ -24,18 +24,18 @@ second_term n p c q e f g = ap₂ (λ x y. x ⊗ y) f (g ∙ ap (λ q. C n p (5 
 
 pub plus-requires : goal.plus-requires
 plus-requires c = (
-  within_more (omega arith) (subst (Within (2 ^ 33)) (sym c.times-left.ensures) (within-⊗ c.lower.ensures.1 c.minor.ensures.1)),
-  within_more (omega arith) (subst (Within (2 ^ 33)) (sym c.times-right.ensures) (within-⊗ c.upper.ensures.1 c.minor-2.ensures.1)),
+  within_more (omega arith) (subst (Within (2 ^ 33)) (sym c.times-left.ensures) (within-⊗ c.basis-q.ensures.lower.1 c.minor.ensures.1)),
+  within_more (omega arith) (subst (Within (2 ^ 33)) (sym c.times-right.ensures) (within-⊗ c.basis-q.ensures.upper.1 c.minor-2.ensures.1)),
 )
 
 pub returns : goal.returns
 returns c =
     let a = c.args in
-    let e = c.place_of-q.ensures.0 in (
+    let e = c.basis-q.ensures.place.0 in (
       c.plus.ensures
           ∙ ap₂ (λ x y. x ⊕ y)
-          (c.times-left.ensures ∙ first_term a.u.now.entries a.p a.c _ e c.lower.ensures.0 c.minor.ensures.0)
-          (c.times-right.ensures ∙ second_term a.u.now.entries a.p a.c _ e c.upper.ensures.0 c.minor-2.ensures.0)
+          (c.times-left.ensures ∙ first_term a.u.now.entries a.p a.c _ e c.basis-q.ensures.lower.0 c.minor.ensures.0)
+          (c.times-right.ensures ∙ second_term a.u.now.entries a.p a.c _ e c.basis-q.ensures.upper.0 c.minor-2.ensures.0)
           ∙ sym (half_entry (compound (matrix_of a.u.now.entries)) a.p a.c c.requires.1),
-      subst (Within (2 ^ 34)) (sym c.plus.ensures) (within-⊕ (subst (Within (2 ^ 33)) (sym c.times-left.ensures) (within-⊗ c.lower.ensures.1 c.minor.ensures.1)) (subst (Within (2 ^ 33)) (sym c.times-right.ensures) (within-⊗ c.upper.ensures.1 c.minor-2.ensures.1))),
+      subst (Within (2 ^ 34)) (sym c.plus.ensures) (within-⊕ (subst (Within (2 ^ 33)) (sym c.times-left.ensures) (within-⊗ c.basis-q.ensures.lower.1 c.minor.ensures.1)) (subst (Within (2 ^ 33)) (sym c.times-right.ensures) (within-⊗ c.basis-q.ensures.upper.1 c.minor-2.ensures.1))),
     )
