@@ -2,8 +2,8 @@
 
 #![tactic(auto)]
 
-ghost use Rattle.std.specs.Prelude.{◌≡◌, [], ◌∷◌, ◌+◌, ◌*◌, ◌<◌, ◌≤◌, ltb, get_or};
-ghost use Rattle.clifford.specs.Columns.{row_of, is_minus, is_even};
+ghost use Rattle.std.specs.Prelude.{◌≡◌, [], ◌∷◌, ◌+◌, ◌*◌, ◌<◌, ◌≤◌, get_or};
+ghost use Rattle.clifford.specs.Columns.{row_of, is_even};
 ghost use Rattle.word.specs.Word.{is_low, bit, low_bits, part_inverses, local_columns, axis_number};
 
 // The columns of the inverse of each part.
@@ -59,27 +59,11 @@ pub fn local_columns(columns: [u8; 6]) -> [u8; 6]
     letter::compose(rest, first)
 }
 
-// 1 where the entry of column b stands above that of column a.
-fn inversion(a: u8, b: u8) -> usize
-    ensures { (result ≡ bit (ltb (row_of b) (row_of a))) × (result < 2) }
-{
-    (clifford::row_of(b) < clifford::row_of(a)) as usize
-}
-
-// 1 where a column's entry is −1.
-fn minus(b: u8) -> usize
-    ensures { (result ≡ bit (is_minus b)) × (result < 2) }
-{
-    (129 <= b) as usize
-}
-
 // Whether three columns of one half have determinant 1.
 pub fn is_even(a: u8, b: u8, c: u8) -> bool
     ensures { result ≡ is_even (a ∷ b ∷ c ∷ []) }
 {
-    let inversions = inversion(a, b) + inversion(a, c) + inversion(b, c);
-    let minuses = minus(a) + minus(b) + minus(c);
-    (inversions + minuses) % 2 == 0
+    sign::is_even([a, b, c])
 }
 
 // The number of a signed row within its half; with the other sign where the half is not even.

@@ -1,4 +1,4 @@
--- Column c has at most five columns after it.
+-- Of six columns or fewer at most five are after column c.
 use mathlib.Core.Path.{◌≡◌, refl, sym, ap, ◌∙◌}
 use Prim.Native.Nat.{ℕ, zero, suc, ◌+◌, ◌*◌, ◌≤◌}
 use native.Mathlib.Numerals.{add-one}
@@ -44,15 +44,13 @@ module _ (cs : List ℕ) where
 
 pub sum-requires-clause-fits : goal.sum-requires-clause-fits
 sum-requires-clause-fits c =
-    let cs = c.args.columns in
-    let l : length cs ≡ 6 = search rules in
-    let few = few_after cs 0 6 (omega arith) in
-    fits_from_yields_list c.map.result 256 (YieldsList-from_map _ (after cs) (YieldsList-from_range 0 6 6 c.map.ensures.source refl) c.map.ensures.closure (λ x r q k. search (rules, tests))) (omega arith)
+    let cs = c.args.columns.now in
+    let few = few_after cs 0 (length cs) c.requires in
+    fits_from_yields_list c.map.result 256 (YieldsList-from_map _ (after cs) (YieldsList-from_range 0 (length cs) (length cs) c.map.ensures.source (omega arith)) c.map.ensures.closure (λ x r q k. search (rules, tests))) (omega (arith, few, c.requires))
 
 pub returns : goal.returns
 returns c =
-    let cs = c.args.columns in
-    let l : length cs ≡ 6 = search rules in
-    let few = few_after cs 0 6 (omega arith) in
-    let e = sum_from_yields_List c.map.result c.sum.result c.sum.ensures.ran (YieldsList-from_map _ (after cs) (YieldsList-from_range 0 6 6 c.map.ensures.source refl) c.map.ensures.closure (λ x r q k. search (rules, tests))) in
-    (omega (arith, e), e ∙ all_after cs 0 6 l)
+    let cs = c.args.columns.now in
+    let few = few_after cs 0 (length cs) c.requires in
+    let e = sum_from_yields_List c.map.result c.sum.result c.sum.ensures.ran (YieldsList-from_map _ (after cs) (YieldsList-from_range 0 (length cs) (length cs) c.map.ensures.source (omega arith)) c.map.ensures.closure (λ x r q k. search (rules, tests))) in
+    (omega (arith, e, few, c.requires), e ∙ all_after cs 0 (length cs) (omega arith))

@@ -7,4 +7,4 @@ use Rattle.sign.proofs.is_even.Goals as goal
 
 pub returns : goal.returns
 unfolding is_even
-returns c = ap₂ (λ a b. eqb ((a + b) % 2) 0) c.inversions_of.ensures.1 c.minuses_of.ensures.1
+returns g c = ap₂ (λ a b. eqb ((a + b) % 2) 0) c.inversions_of.ensures.1 c.minuses_of.ensures.1

@@ -1,6 +1,5 @@
-use mathlib.Core.Path.{◌≡◌, refl}
+use mathlib.Core.Path.{refl}
 use native.Mathlib.Omega.{arith}
-use lib.ListN.{length}
 use borrow.Author.Rules.{rules}
 use borrow.Author.Tests.{tests}
 use Rattle.std.proofs.lemmas.Iterator.{YieldsList-from_slice}
@@ -11,8 +10,7 @@ use Rattle.sign.proofs.minuses_of.Goals as goal
 
 pub returns : goal.returns
 returns c =
-    let bs = c.args.columns in
-    let l : length bs ≡ 6 = search rules in
+    let bs = c.args.columns.now in
     let (e, u) = counted is_minus minuses refl (λ _ _. refl) bs in
     let n = count_from_yields_List c.filter.result c.count.result c.count.ensures.ran (YieldsList-from_filter _ is_minus (YieldsList-from_slice bs cc) c.filter.ensures.closure (λ x r q k. search (rules, tests))) in
-    (omega (arith, n, e, u, l), omega (arith, n, e))
+    (omega (arith, n, e, u, c.requires), omega (arith, n, e))

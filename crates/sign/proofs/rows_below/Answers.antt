@@ -1,4 +1,4 @@
-use mathlib.Core.Path.{◌≡◌, refl, ◌∙◌}
+use mathlib.Core.Path.{refl, ◌∙◌}
 use Prim.Native.Nat.{ℕ, ◌+◌, ◌-◌}
 use native.Mathlib.Omega.{arith}
 use mathlib.Core.Bool.{Bool}
@@ -21,11 +21,11 @@ is_below r b = ltb (row_of b) r
 pub returns : goal.returns
 returns c =
     let a = c.args in
-    let r = row_of (get_or a.columns a.c 0) in
-    let bs = drop (a.c + 1) a.columns in
-    let l : length a.columns ≡ 6 = search rules in
-    let k = length-drop (a.c + 1) a.columns in
+    let cs = a.columns.now in
+    let r = row_of (get_or cs a.c 0) in
+    let bs = drop (a.c + 1) cs in
+    let k = length-drop (a.c + 1) cs in
     let (e, u) = counted (is_below r) (λ xs. below r (map row_of xs)) refl (λ _ _. refl) bs in
-    let s = YieldsList-at c.filter.ensures.source (YieldsList-from_slice bs (c.iter.ensures.rest ∙ take_all (6 - (a.c + 1)) bs (omega (arith, k, l)))) in
+    let s = YieldsList-at c.filter.ensures.source (YieldsList-from_slice bs (c.iter.ensures.rest ∙ take_all (length cs - (a.c + 1)) bs (omega (arith, k, c.requires)))) in
     let n = count_from_yields_List c.filter.result c.count.result c.count.ensures.ran (YieldsList-from_filter _ (is_below r) s c.filter.ensures.closure (λ x r q k. search (rules, tests))) in
-    (omega (arith, n, e, u, k, l), omega (arith, n, e))
+    (omega (arith, n, e, u, k, c.requires), omega (arith, n, e))
