@@ -60,6 +60,16 @@ pub fn write_refused(n: u8, out: &mut [u8]) -> usize
     w.at
 }
 
+// The line of a refusal, in `out`.
+pub fn refused<'a>(n: u8, out: &'a mut [u8]) -> &'a [u8]
+    requires { length (refused_line n) ≤ length out.old }
+    ensures { result.now ≡ refused_line n }
+{
+    let mut w = Writer::new(out);
+    write_line(Word::Refused, &[n], &mut w);
+    w.written()
+}
+
 // The line of a gate list.
 pub fn write_gates(letters: &[u8], w: &mut Writer<'_>)
     requires { Room (gates_line letters.now) w.old }

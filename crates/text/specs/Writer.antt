@@ -10,9 +10,13 @@ pub record Begins (out : MutBor (List ℕ)) (w : Writer) : Type 0 where
   pub buffer : w.out.now ≡ out.now
   pub lent : w.out.ghost_name ≡ out.ghost_name
 
+-- the buffer has room for n more bytes
+abbrev pub RoomFor : ℕ → Writer → Type 0
+RoomFor n w = w.at + n ≤ length w.out.now
+
 -- the buffer has room for these bytes
 abbrev pub Room : List ℕ → Writer → Type 0
-Room bs w = w.at + length bs ≤ length w.out.now
+Room bs w = RoomFor (length bs) w
 
 -- the bytes bs stand at the place of `old`, and that of `new` is behind them
 pub record Writes (bs : List ℕ) (old new : Writer) : Type 0 where

@@ -2,7 +2,7 @@
 
 #![tactic(auto)]
 
-ghost use Rattle.std.specs.Prelude.{[], ◌∷◌};
+ghost use Rattle.std.specs.Prelude.{[], ◌∷◌, ◌≡◌, ◌≤◌, length, take};
 ghost use Rattle.text.specs.Text.{decimal, spaced, line};
 ghost use Rattle.text.specs.Writer.{Begins, Room, Writes};
 
@@ -21,6 +21,15 @@ impl<'a> Writer<'a> {
         ensures { Begins out.entry result }
     {
         Writer { out, at: 0 }
+    }
+
+    // The bytes that were written.
+    pub fn written(self) -> &'a [u8]
+        requires { self.at ≤ length self.out.now }
+        ensures { result.now ≡ take self.entry.at self.entry.out.now }
+    {
+        let Writer { out, at } = self;
+        &out[..at]
     }
 
     // One byte.

@@ -9,8 +9,8 @@ use native.Mathlib.Omega.{arith}
 use Rattle.std.proofs.Math.ListN.{length, get_or, take, drop, length-append}
 use Rattle.std.proofs.Math.Seq.{split_at, take-suc}
 use Rattle.file.specs.File.{written, Appended}
-use Rattle.file.specs.Laws.Written.{appended_length}
-use Rattle.text.specs.Text.{digit, decimal, spaced, line}
+use Rattle.file.specs.Laws.Written.{appended_length, appended_take}
+use Rattle.text.specs.Text.{digit, decimal, spaced, line, count_line, loose_line, refused_word, refused_line, gates_line, list_lines}
 
 pub decimal_one : (n : ℕ) → n < 10 → decimal n ≡ digit n ∷ []
 unfolding decimal
@@ -79,6 +79,16 @@ line_parts word ns = simp length-append
 pub line_length : (word ns : List ℕ) → length (line word ns) ≤ length word + 4 * length ns + 1
 line_length word ns = let e = line_parts word ns in let l = spaced_length ns in omega arith
 
+pub refused_length : (n : ℕ) → length (refused_line n) ≤ 12
+refused_length n = line_length refused_word (n ∷ [])
+
+-- the three lines of a list are as long as they are together
+pub list_length : (t l : ℕ) (w : List ℕ) → length (list_lines t w l) ≡ length (count_line t) + length (gates_line w) + length (loose_line l)
+list_length t l w =
+    let m = length-append (count_line t) (gates_line w) in
+    let n = length-append (count_line t ++ gates_line w) (loose_line l) in
+    omega arith
+
 -- what is written lies within the buffer
 pub within : {bs old new : List ℕ} {r : ℕ} → Appended bs 0 old new r → length bs ≤ length old → (r ≤ length new) × (r ≡ length (take r new))
 within {bs} {old} {new} {r} a h =
@@ -86,6 +96,10 @@ within {bs} {old} {new} {r} a h =
     let e = a.next in
     let k : r ≤ length new = omega arith in
     (k, sym (length-take-le r new k))
+
+-- and what is taken of the buffer up to the place after it is what is written
+pub taken : {bs old new : List ℕ} {r : ℕ} → Appended bs 0 old new r → length bs ≤ length old → take r new ≡ bs
+taken a h = appended_take a (omega arith)
 
 -- what is written at the front of a buffer is appended at its start
 pub front : (old bs : List ℕ) → Appended bs 0 old (written old bs) (length bs)
