@@ -2,17 +2,16 @@
 
 #![tactic(auto)]
 
-ghost use Rattle.io.specs.Counts.{IsPrefixLen};
-ghost use Rattle.file.specs.File.{Appended};
+ghost use Rattle.std.specs.Prelude.{◌≡◌};
 ghost use Rattle.cut.specs.Output.{cut_text};
 
 use line::Word;
 use std::io::Result;
 use text::Writer;
 
-// The text for a file, at the front of `out`.
-fn answer(file: &[u8], out: &mut [u8; 512]) -> usize
-    ensures { Appended (cut_text file.now) 0 out.old out.new result × IsPrefixLen result out.new }
+// The text for a file, written in `out`.
+fn answer<'a>(file: &[u8], out: &'a mut [u8; 512]) -> &'a [u8]
+    ensures { result.now ≡ cut_text file.now }
 {
     let mut sheet = [0u8; sheet_bytes::LONGEST];
     match operator::operator_to_sheet(file, &mut sheet) {
@@ -22,9 +21,9 @@ fn answer(file: &[u8], out: &mut [u8; 512]) -> usize
             line::write_line(Word::Count, &[cuts.count], &mut w);
             line::write_line(Word::Sheet, &sheet[..end], &mut w);
             line::write_line(Word::Loose, &[cuts.loose], &mut w);
-            w.at
+            w.written()
         }
-        Err(refusal) => line::write_refused(refusal.number(), out),
+        Err(refusal) => line::refused(refusal.number(), out),
     }
 }
 
@@ -33,6 +32,5 @@ fn main(rt: HostRuntime) -> Result<()> {
     let mut file = io::buffer();
     let length = streams::read_full(&mut rt.stdin(), &mut file)?;
     let mut text = [0u8; 512];
-    let end = answer(&file[..length], &mut text);
-    rt.write_all(&text[..end])
+    rt.write_all(answer(&file[..length], &mut text))
 }

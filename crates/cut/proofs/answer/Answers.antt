@@ -1,16 +1,15 @@
 -- The text is that of the answer's case.
 use Rattle.std.specs.Prelude.{Err}
-use mathlib.Core.Path.{refl, sym, ap}
-use mathlib.Core.List.{[], ◌∷◌, ◌++◌}
+use mathlib.Core.Path.{refl, sym, ap, ◌∙◌}
+use mathlib.Core.List.{◌++◌}
 use Prim.Native.Nat.{◌+◌}
 use native.Mathlib.Omega.{arith}
 use lib.ListN.{length, take, length-append}
 use lib.Seq.{length-take-le}
-use Rattle.file.specs.Laws.Written.{appended_as}
 use Rattle.sheet_bytes.specs.Bytes.{shortest}
-use Rattle.text.specs.Text.{refused_word, count_line, sheet_line, loose_line}
-use Rattle.text.specs.Laws.Text.{line_length, within}
-use Rattle.text.specs.Laws.Writer.{room_front, room_after, writes_append, writes_front}
+use Rattle.text.specs.Text.{count_line, sheet_line, loose_line}
+use Rattle.text.specs.Laws.Text.{refused_length}
+use Rattle.text.specs.Laws.Writer.{room_front, room_after, writes_append, written_is}
 use Rattle.cut.specs.Laws.Output.{counted, refused}
 use Rattle.cut.proofs.answer.Goals as goal
 
@@ -42,8 +41,8 @@ write_line-requires-in-Ok-2 c =
     let m = length-append (count_line t) (sheet_line sheet) in
     room_after (writes_append c.write_line.ensures (omega arith) c.write_line-in-Ok.ensures) _ (omega arith)
 
-pub write_refused-requires : goal.write_refused-requires
-write_refused-requires c = let l = line_length refused_word (c.number.result ∷ []) in omega arith
+pub refused-requires : goal.refused-requires
+refused-requires c = omega (arith, refused_length c.number.result)
 
 pub returns-in-Ok : goal.returns-in-Ok
 returns-in-Ok c =
@@ -55,12 +54,7 @@ returns-in-Ok c =
     let m = length-append (count_line t) (sheet_line sheet) in
     let n = length-append (count_line t ++ sheet_line sheet) (loose_line c.in-Ok.cuts.loose) in
     let two = writes_append c.write_line.ensures (omega arith) c.write_line-in-Ok.ensures in
-    let a = writes_front c.new-w.ensures (writes_append two (omega arith) c.write_line-in-Ok-2.ensures) in
-    (appended_as (sym k.text) a, within a (omega arith))
+    c.written.ensures ∙ written_is c.new-w.ensures (writes_append two (omega arith) c.write_line-in-Ok-2.ensures) (omega arith) ∙ sym k.text
 
 pub returns-in-Err : goal.returns-in-Err
-returns-in-Err c =
-    let e = refused _ _ _ _ (omega arith) c.in-Err.ensures _ (ap Err (sym c.number.ensures.0)) in
-    let l = line_length refused_word (c.number.result ∷ []) in
-    let a = c.write_refused.ensures in
-    (appended_as (sym e) a, within a (omega arith))
+returns-in-Err c = c.refused.ensures ∙ sym (refused _ _ _ _ (omega arith) c.in-Err.ensures _ (ap Err (sym c.number.ensures.0)))
