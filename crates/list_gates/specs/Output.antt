@@ -2,7 +2,7 @@
 use Rattle.std.specs.Prelude.{List, ◌++◌, map, ◌≢◌, ◌≡◌, ℕ}
 use Rattle.letter.specs.declared.Gate.{Gate}
 use Rattle.letter.specs.Gate.{letter}
-use Rattle.file.specs.File.{Appended, file_operator}
+use Rattle.file.specs.File.{file_operator}
 use Rattle.acceptance.specs.Acceptance.{file_refusal}
 use Rattle.acceptance.specs.Cutting.{file_count, file_loose}
 use Rattle.gate_list.specs.Promise.{ListFor}
@@ -12,9 +12,3 @@ use Rattle.text.specs.Text.{list_lines, sign_line, refused_line}
 pub record ListText (b : List ℕ) (text : List ℕ) : Type 0 where
   pub refused : file_refusal b ≢ 0 → text ≡ refused_line (file_refusal b)
   pub listed : file_refusal b ≡ 0 → (w : List Gate) × (s : ℕ) × (text ≡ list_lines (file_count b) (map letter w) (file_loose b) ++ sign_line s) × ListFor (file_operator b) (file_count b) w s
-
--- it stands at the front of the buffer
-pub record Printed (b old new : List ℕ) (r : ℕ) : Type 0 where
-  pub text : List ℕ
-  pub says : ListText b text
-  pub stands : Appended text 0 old new r

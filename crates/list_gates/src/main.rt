@@ -3,16 +3,15 @@
 
 #![tactic(auto)]
 
-ghost use Rattle.io.specs.Counts.{IsPrefixLen};
-ghost use Rattle.list_gates.specs.Output.{Printed};
+ghost use Rattle.list_gates.specs.Output.{ListText};
 
 use line::Word;
 use std::io::Result;
 use text::Writer;
 
-// The text for a file, at the front of `out`.
-fn answer(file: &[u8], out: &mut [u8; 16384]) -> usize
-    ensures { Printed file.now out.old out.new result × IsPrefixLen result out.new }
+// The text for a file, written in `out`.
+fn answer<'a>(file: &[u8], out: &'a mut [u8; 16384]) -> &'a [u8]
+    ensures { ListText file.now result.now }
 {
     let mut gates = [0u8; gate::GATES_BUFFER];
     match operator::operator_to_gates(file, &mut gates) {
@@ -20,9 +19,9 @@ fn answer(file: &[u8], out: &mut [u8; 16384]) -> usize
             let mut w = Writer::new(out);
             line::write_list(list.count, &gates[..list.letters], list.loose, &mut w);
             line::write_line(Word::Sign, &[list.sign], &mut w);
-            w.at
+            w.written()
         }
-        Err(refusal) => line::write_refused(refusal.number(), out),
+        Err(refusal) => line::refused(refusal.number(), out),
     }
 }
 
@@ -31,6 +30,5 @@ fn main(rt: HostRuntime) -> Result<()> {
     let mut file = io::buffer();
     let length = streams::read_full(&mut rt.stdin(), &mut file)?;
     let mut text = [0u8; 16384];
-    let end = answer(&file[..length], &mut text);
-    rt.write_all(&text[..end])
+    rt.write_all(answer(&file[..length], &mut text))
 }
