@@ -2,17 +2,16 @@
 
 #![tactic(auto)]
 
-ghost use Rattle.io.specs.Counts.{IsPrefixLen};
-ghost use Rattle.list_unitary.specs.Output.{Printed};
+ghost use Rattle.list_unitary.specs.Output.{UnitaryText};
 
 use line::Word;
 use std::io::Result;
 use text::Writer;
 
-// The text for the bytes, at the front of `out`.
+// The text for the bytes, written in `out`.
 // Wrong, and refused: L in the line of the power; the power over L.
-fn answer(bytes: &[u8], out: &mut [u8; 16384]) -> usize
-    ensures { Printed bytes.now out.old out.new result × IsPrefixLen result out.new }
+fn answer<'a>(bytes: &[u8], out: &'a mut [u8; 16384]) -> &'a [u8]
+    ensures { UnitaryText bytes.now result.now }
 {
     let mut gates = [0u8; gate::GATES_BUFFER];
     match unitary_gates::unitary_to_gates(bytes, &mut gates) {
@@ -20,9 +19,9 @@ fn answer(bytes: &[u8], out: &mut [u8; 16384]) -> usize
             let mut w = Writer::new(out);
             line::write_list(list.count, &gates[..list.letters], list.loose, &mut w);
             line::write_line(Word::Omega, &[list.power], &mut w);
-            w.at
+            w.written()
         }
-        Err(refusal) => line::write_refused(refusal.number(), out),
+        Err(refusal) => line::refused(refusal.number(), out),
     }
 }
 
@@ -31,6 +30,5 @@ fn main(rt: HostRuntime) -> Result<()> {
     let mut bytes = io::buffer();
     let length = streams::read_full(&mut rt.stdin(), &mut bytes)?;
     let mut text = [0u8; 16384];
-    let end = answer(&bytes[..length], &mut text);
-    rt.write_all(&text[..end])
+    rt.write_all(answer(&bytes[..length], &mut text))
 }
