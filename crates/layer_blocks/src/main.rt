@@ -3,18 +3,17 @@
 
 #![tactic(auto)]
 
-ghost use Rattle.io.specs.Counts.{IsPrefixLen};
-ghost use Rattle.file.specs.File.{Appended};
+ghost use Rattle.std.specs.Prelude.{◌≡◌};
 ghost use Rattle.layer_blocks.specs.Output.{layer_text};
 
 use line::Word;
 use std::io::Result;
 use text::Writer;
 
-// The text for a program, at the front of `out`.
+// The text for a program, written in `out`.
 // Wrong, and refused: the layers over their number; a refusal one byte late.
-fn answer(blocks: &[u8], out: &mut [u8; 512]) -> usize
-    ensures { Appended (layer_text blocks.now) 0 out.old out.new result × IsPrefixLen result out.new }
+fn answer<'a>(blocks: &[u8], out: &'a mut [u8; 512]) -> &'a [u8]
+    ensures { result.now ≡ layer_text blocks.now }
 {
     let mut layers = [0u8; block::MOST_BLOCKS];
     match layer::blocks_to_layers(blocks, &mut layers) {
@@ -22,9 +21,9 @@ fn answer(blocks: &[u8], out: &mut [u8; 512]) -> usize
             let mut w = Writer::new(out);
             line::write_line(Word::Layers, &[count], &mut w);
             line::write_line(Word::Layer, &layers[..blocks.len() / 2], &mut w);
-            w.at
+            w.written()
         }
-        Err(refusal) => line::write_refused(refusal.number(), out),
+        Err(refusal) => line::refused(refusal.number(), out),
     }
 }
 
@@ -33,6 +32,5 @@ fn main(rt: HostRuntime) -> Result<()> {
     let mut blocks = io::buffer();
     let length = streams::read_full(&mut rt.stdin(), &mut blocks)?;
     let mut text = [0u8; 512];
-    let end = answer(&blocks[..length], &mut text);
-    rt.write_all(&text[..end])
+    rt.write_all(answer(&blocks[..length], &mut text))
 }
