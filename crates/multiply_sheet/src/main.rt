@@ -2,19 +2,18 @@
 
 #![tactic(auto)]
 
-ghost use Rattle.io.specs.Counts.{IsPrefixLen};
-ghost use Rattle.file.specs.File.{Appended};
+ghost use Rattle.std.specs.Prelude.{◌≡◌};
 ghost use Rattle.multiply_sheet.specs.Output.{output_of};
 
 use std::io::Result;
 
-// The bytes for a sheet, at the front of `out`.
-fn answer(bytes: &[u8], out: &mut [u8; 256]) -> usize
-    ensures { Appended (output_of bytes.now) 0 out.old out.new result × IsPrefixLen result out.new }
+// The bytes for a sheet, written in `out`.
+fn answer<'a>(bytes: &[u8], out: &'a mut [u8; 256]) -> &'a [u8]
+    ensures { result.now ≡ output_of bytes.now }
 {
     match sheet::sheet_to_operator(bytes, out) {
-        Ok(count) => file::length_for(count),
-        Err(refusal) => line::write_refused(refusal.number(), out),
+        Ok(count) => &out[..file::length_for(count)],
+        Err(refusal) => line::refused(refusal.number(), out),
     }
 }
 
@@ -23,6 +22,5 @@ fn main(rt: HostRuntime) -> Result<()> {
     let mut bytes = io::buffer();
     let length = streams::read_full(&mut rt.stdin(), &mut bytes)?;
     let mut output = [0u8; 256];
-    let end = answer(&bytes[..length], &mut output);
-    rt.write_all(&output[..end])
+    rt.write_all(answer(&bytes[..length], &mut output))
 }
