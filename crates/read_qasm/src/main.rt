@@ -5,7 +5,6 @@
 ghost use Rattle.std.specs.Prelude.{◌++◌, map, ◌≡◌, ◌+◌, ◌≤◌, IfOk, IfErr, length, take};
 ghost use Rattle.io.specs.Counts.{IsPrefixLen};
 ghost use Rattle.refusal.specs.Refusal.{number};
-ghost use Rattle.file.specs.File.{Appended};
 ghost use Rattle.letter.specs.Gate.{letter};
 ghost use Rattle.qasm.specs.Reading.{read_qasm};
 ghost use Rattle.qasm.specs.Output.{output_of};
@@ -23,13 +22,13 @@ const WINDOW: usize = qasm::LONGEST_STATEMENT + 65536;
 // More turns than an input has parts of 65,536 bytes.
 const MOST_TURNS: u64 = 1 << 48;
 
-// The bytes for a text, at the front of `out`.
-fn answer(text: &[u8], out: &mut [u8; gate::LARGEST_LIST]) -> usize
-    ensures { Appended (output_of (map letter) (read_qasm text.now)) 0 out.old out.new result × IsPrefixLen result out.new }
+// The bytes for a text, written in `out`.
+fn answer<'a>(text: &[u8], out: &'a mut [u8; gate::LARGEST_LIST]) -> &'a [u8]
+    ensures { result.now ≡ output_of (map letter) (read_qasm text.now) }
 {
     match qasm_read::qasm_to_gates(text, out) {
-        Ok(bytes) => bytes,
-        Err(refusal) => line::write_refused(refusal.number(), out),
+        Ok(bytes) => &out[..bytes],
+        Err(refusal) => line::refused(refusal.number(), out),
     }
 }
 
@@ -104,7 +103,8 @@ fn read_on<R: Read>(input: &mut R, text: &[u8]) -> Result<Refusal>
     Ok(last_refusal(left))
 }
 
-// The bytes for a text that goes on behind so many, at the front of `out`.
+// The bytes for a text that goes on behind so many, at the front of `out`. How many, and no slice: where reading fails, what was lent stands, which an
+// answer that borrows from it could not say.
 fn answer_long<R: Read>(
     input: &mut R,
     text: &[u8],
@@ -124,8 +124,7 @@ fn main(rt: HostRuntime) -> Result<()> {
     let mut output = [0u8; gate::LARGEST_LIST];
     let length = streams::read_full(&mut input, &mut text)?;
     if length < LONGER {
-        let end = answer(&text[..length], &mut output);
-        return rt.write_all(&output[..end]);
+        return rt.write_all(answer(&text[..length], &mut output));
     }
     let end = answer_long(&mut input, &text, &mut output)?;
     rt.write_all(&output[..end])

@@ -2,8 +2,7 @@
 
 #![tactic(auto)]
 
-ghost use Rattle.io.specs.Counts.{IsPrefixLen};
-ghost use Rattle.file.specs.File.{Appended};
+ghost use Rattle.std.specs.Prelude.{◌≡◌};
 ghost use Rattle.text_read.specs.Text.{without_line_feed};
 ghost use Rattle.qasm.specs.Text.{text_of};
 ghost use Rattle.qasm.specs.Reading.{read_letters};
@@ -11,14 +10,14 @@ ghost use Rattle.qasm.specs.Output.{output_of};
 
 use std::io::Result;
 
-// The bytes for a gate list, at the front of `out`.
-fn answer(input: &[u8], out: &mut [u8; qasm::LONGEST_TEXT]) -> usize
-    ensures { Appended (output_of text_of (read_letters (without_line_feed input.now))) 0 out.old out.new result × IsPrefixLen result out.new }
+// The bytes for a gate list, written in `out`.
+fn answer<'a>(input: &[u8], out: &'a mut [u8; qasm::LONGEST_TEXT]) -> &'a [u8]
+    ensures { result.now ≡ output_of text_of (read_letters (without_line_feed input.now)) }
 {
     let letters = text_read::without_line_feed(input);
     match qasm::gates_to_qasm(letters, out) {
-        Ok(bytes) => bytes,
-        Err(refusal) => line::write_refused(refusal.number(), out),
+        Ok(bytes) => &out[..bytes],
+        Err(refusal) => line::refused(refusal.number(), out),
     }
 }
 
@@ -27,6 +26,5 @@ fn main(rt: HostRuntime) -> Result<()> {
     let mut input = io::large_buffer();
     let length = streams::read_full(&mut rt.stdin(), &mut input)?;
     let mut output = [0u8; qasm::LONGEST_TEXT];
-    let end = answer(&input[..length], &mut output);
-    rt.write_all(&output[..end])
+    rt.write_all(answer(&input[..length], &mut output))
 }

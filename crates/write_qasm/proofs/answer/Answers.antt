@@ -1,15 +1,13 @@
 -- What is written is that of the answer's case.
 use Rattle.std.specs.Prelude.{Err}
 use mathlib.Core.Path.{◌≡◌, ap, ◌∙◌}
-use mathlib.Core.List.{List, [], ◌∷◌}
+use mathlib.Core.List.{List}
 use Prim.Native.Nat.{ℕ, ◌≤◌}
 use native.Mathlib.Omega.{arith}
 use lib.ListN.{length}
-use Rattle.file.specs.Laws.Written.{appended_as}
 use Rattle.letter.specs.declared.Gate.{Gate}
 use Rattle.gate.specs.Reading.{gates}
-use Rattle.text.specs.Text.{refused_word}
-use Rattle.text.specs.Laws.Text.{line_length, within}
+use Rattle.text.specs.Laws.Text.{refused_length, within, taken}
 use Rattle.text_read.specs.Text.{without_line_feed}
 use Rattle.qasm.specs.Text.{text_of, longest_text}
 use Rattle.qasm.specs.Reading.{read_letters}
@@ -21,27 +19,29 @@ use Rattle.write_qasm.proofs.answer.Goals as goal
 room : (bs old : List ℕ) → longest_text ≤ length old → (w : List Gate) → read_letters bs ≡ gates w → length (text_of w) ≤ length old
 room bs old h w e = let t = text_small bs w e in omega arith
 
-pub write_refused-requires : goal.write_refused-requires
-write_refused-requires c =
+pub shared_ref_as_front-result : goal.shared_ref_as_front-result
+shared_ref_as_front-result c =
+    let p = rw c.without_line_feed-letters.ensures at c.in-Ok.ensures in
+    let bs = without_line_feed c.args.input.now in
+    let (n, a) = wrote text_of _ _ (read_letters bs) (room bs c.args.out.now (omega arith)) _ p.answer p.buffer in
+    omega (arith, (within a n).0)
+
+pub refused-requires : goal.refused-requires
+refused-requires c =
     let p = rw c.without_line_feed-letters.ensures at c.in-Err.ensures in
     let bs = without_line_feed c.args.input.now in
-    let (e, f) = refused text_of _ _ (read_letters bs) (room bs c.args.out.now (omega arith)) _ (ap Err c.number.ensures.0 ∙ p.answer) p.buffer in
-    let l = line_length refused_word (c.number.result ∷ []) in
-    let m = ap length f in
-    omega arith
+    let m = ap length (refused text_of _ _ (read_letters bs) (room bs c.args.out.now (omega arith)) _ (ap Err c.number.ensures.0 ∙ p.answer) p.buffer).1 in
+    omega (arith, refused_length c.number.result)
 
 pub returns-in-Ok : goal.returns-in-Ok
 returns-in-Ok c =
     let p = rw c.without_line_feed-letters.ensures at c.in-Ok.ensures in
     let bs = without_line_feed c.args.input.now in
     let (n, a) = wrote text_of _ _ (read_letters bs) (room bs c.args.out.now (omega arith)) _ p.answer p.buffer in
-    (a, within a n)
+    taken a n
 
 pub returns-in-Err : goal.returns-in-Err
 returns-in-Err c =
     let p = rw c.without_line_feed-letters.ensures at c.in-Err.ensures in
     let bs = without_line_feed c.args.input.now in
-    let (e, f) = refused text_of _ _ (read_letters bs) (room bs c.args.out.now (omega arith)) _ (ap Err c.number.ensures.0 ∙ p.answer) p.buffer in
-    let l = line_length refused_word (c.number.result ∷ []) in
-    let a = rw f at c.write_refused.ensures in
-    (appended_as e a, within a (omega arith))
+    c.refused.ensures ∙ (refused text_of _ _ (read_letters bs) (room bs c.args.out.now (omega arith)) _ (ap Err c.number.ensures.0 ∙ p.answer) p.buffer).0
