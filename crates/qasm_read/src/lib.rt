@@ -92,7 +92,7 @@ pub fn statements_from(text: &[u8], at: usize) -> Statements
 }
 
 // The letters of the statements from a place on, the last statement's first, at the front of `out`.
-// By their places, since a proof knows no element of a slice behind an adapter of `iter_mut`.
+// By index, since of a slice that `iter_mut().rev()` wrote a proof knows the length alone.
 fn write_letters(text: &[u8], at: usize, count: usize, out: &mut [u8])
     requires { (at ≤ length text.now) × (Ok count ≡ size (map letter) (read_from text.now at)) × (count ≤ length out.old) }
     ensures { out.new ≡ written out.old (map letter (list_in (read_from text.now at))) }
