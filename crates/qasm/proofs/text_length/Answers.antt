@@ -10,8 +10,8 @@ use Rattle.std.specs.Slice.Iter.{iter_rest}
 use Rattle.letter.specs.declared.Gate.{Gate}
 use Rattle.letter.specs.Gate.{gate_of}
 use Rattle.letter.specs.Laws.Gate.{converted, not_converted}
-use Rattle.qasm.specs.Text.{first_lines, statement as line, body, text_of, first_length}
 use Rattle.gate.specs.Reading.{gates}
+use Rattle.qasm.specs.Text.{first_lines, statement as line, body, text_of, first_length}
 use Rattle.qasm.specs.Reading.{before, letters_of}
 use Rattle.qasm.specs.Promise.{size}
 use Rattle.qasm.specs.Laws.Writing.{length_first, statement_long, one_back, none_left, letters_unknown}

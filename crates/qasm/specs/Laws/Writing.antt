@@ -49,6 +49,7 @@ body_of_lem (b ∷ bs) w e = go (gate_of b) (letters_of bs) (body_of_lem bs) e
 
 -- ---- from the last letter to the first
 
+-- the letters are those that are left and those behind them
 pub one_back : {bs left : List ℕ} (behind front : List ℕ) (b : ℕ) → bs ≡ left ++ behind → left ≡ front ++ b ∷ [] → bs ≡ front ++ b ∷ behind
 one_back behind front b are e = are ∙ ap (λ l. l ++ behind) e ∙ append_snoc front b behind
 
