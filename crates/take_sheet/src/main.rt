@@ -2,9 +2,8 @@
 
 #![tactic(auto)]
 
-ghost use Rattle.std.specs.Prelude.{[], ◌∷◌, ◌++◌, ◌≡◌, ◌^◌, ◌<◌, ◌≤◌, IfOk, IfErr, OnOk, OnErr, IfSome, length, take};
+ghost use Rattle.std.specs.Prelude.{[], ◌∷◌, ◌++◌, ◌≡◌, ◌^◌, ◌<◌, ◌≤◌, is_some, IfOk, IfErr, OnOk, OnErr, IfSome, length, take};
 ghost use Rattle.io.specs.Counts.{IsPrefixLen};
-ghost use Rattle.file.specs.File.{Appended};
 ghost use Rattle.text_read.specs.Text.{number_of};
 ghost use Rattle.take_sheet.specs.Output.{sheet_output, output_of, last_two};
 ghost use Rattle.take_sheet.specs.Input.{KeptOf};
@@ -19,28 +18,27 @@ const LONGER: usize = 65535 + 199 + (2 * bundle::MOST_SHEETS + 2) + 1;
 // More turns than an input has parts of 65,536 bytes.
 const MOST_TURNS: u64 = 1 << 48;
 
-// The bytes for a sheet of a bundle, at the front of `out`.
-fn write_sheet(bundle: &[u8], n: u64, out: &mut [u8; 256]) -> usize
-    ensures { Appended (sheet_output bundle.now n) 0 out.old out.new result × IsPrefixLen result out.new }
+// The bytes for a sheet of a bundle, written in `out`.
+fn write_sheet<'a>(bundle: &[u8], n: u64, out: &'a mut [u8; 256]) -> &'a [u8]
+    ensures { result.now ≡ sheet_output bundle.now n }
 {
     match bundle::check_bundle(bundle, n) {
         Ok(()) => {
             let mut w = Writer::new(out);
             w.bytes(bundle::bundle_sheet(bundle, n));
-            w.at
+            w.written()
         }
-        Err(refusal) => line::write_refused(refusal.number(), out),
+        Err(refusal) => line::refused(refusal.number(), out),
     }
 }
 
-// The bytes for a bundle and an argument, or nothing, which has no bytes: no `Option` is plainer than their number.
-fn answer(bundle: &[u8], number: &[u8], out: &mut [u8; 256]) -> usize
-    ensures { Appended (output_of bundle.now (number_of number.now)) 0 out.old out.new result × IsPrefixLen result out.new }
+// The bytes for a bundle and an argument, if it is a number.
+fn answer<'a>(bundle: &[u8], number: &[u8], out: &'a mut [u8; 256]) -> Option<&'a [u8]>
+    ensures some { is_some result ≡ is_some (number_of number.now) }
+    ensures bytes { IfSome result (λ bytes. bytes.now ≡ output_of bundle.now (number_of number.now)) }
 {
-    match text_read::read_number(number) {
-        Some(n) => write_sheet(bundle, n, out),
-        None => 0,
-    }
+    let n = text_read::read_number(number)?;
+    Some(write_sheet(bundle, n, out))
 }
 
 // One byte more: the last byte moves one place to the front, and the new one takes its place.
@@ -110,10 +108,8 @@ fn main(rt: HostRuntime) -> Result<()> {
     }
     let mut bundle = [0u8; LONGER];
     let length = read_input(&mut rt.stdin(), &mut bundle)?;
-    let mut output = [0u8; 256];
-    let end = answer(&bundle[..length], &number[..m], &mut output);
-    if end == 0 {
-        return usage(&rt);
+    match answer(&bundle[..length], &number[..m], &mut [0u8; 256]) {
+        Some(bytes) => rt.write_all(bytes),
+        None => usage(&rt),
     }
-    rt.write_all(&output[..end])
 }
