@@ -61,7 +61,7 @@ pub fn write_refused(n: u8, out: &mut [u8]) -> usize
 }
 
 // The line of a refusal, in `out`.
-pub fn refused<'a>(n: u8, out: &'a mut [u8]) -> &'a [u8]
+pub fn refused(n: u8, out: &mut [u8]) -> &[u8]
     requires { length (refused_line n) ≤ length out.old }
     ensures { result.now ≡ refused_line n }
 {

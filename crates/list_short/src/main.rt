@@ -3,9 +3,7 @@
 #![tactic(auto)]
 
 ghost use Rattle.std.specs.Prelude.{◌≡◌, ◌+◌, ◌≤◌, eqb, length};
-ghost use Rattle.io.specs.Counts.{IsPrefixLen};
-ghost use Rattle.file.specs.File.{Appended};
-ghost use Rattle.text.specs.Writer.{Writes};
+ghost use Rattle.text.specs.Writer.{RoomFor, Writes};
 ghost use Rattle.sheet_bytes.specs.Bytes.{shortest};
 ghost use Rattle.sheet_bytes.specs.Sheet.{sheet_refusal};
 ghost use Rattle.short_sheet.specs.Short.{if_read, plain_sheets};
@@ -24,7 +22,7 @@ fn is_read(sheet: &[u8]) -> bool
 
 // The line of a sheet of at most two numbers, if it is read: at most ten bytes.
 fn write_entry(sheet: &[u8], w: &mut Writer<'_>)
-    requires { (shortest ≤ length sheet.now) × (length sheet.now ≤ shortest + 2) × (w.old.at + 10 ≤ length w.old.out.now) }
+    requires { (shortest ≤ length sheet.now) × (length sheet.now ≤ shortest + 2) × RoomFor 10 w.old }
     ensures { Writes (lines_of (if_read sheet.now)) w.old w.new }
 {
     if is_read(sheet) {
@@ -35,7 +33,7 @@ fn write_entry(sheet: &[u8], w: &mut Writer<'_>)
 
 // The lines of the sheets of one number.
 fn write_ones(w: &mut Writer<'_>)
-    requires { w.old.at + 150 ≤ length w.old.out.now }
+    requires { RoomFor 150 w.old }
     ensures { Writes (lines_of (plain_sheets 1)) w.old w.new }
 {
     for g in 1u8..=15 {
@@ -45,7 +43,7 @@ fn write_ones(w: &mut Writer<'_>)
 
 // The lines of the sheets of two numbers of which g is the first.
 fn write_pairs(g: u8, w: &mut Writer<'_>)
-    requires { w.old.at + 150 ≤ length w.old.out.now }
+    requires { RoomFor 150 w.old }
     ensures { Writes (lines_of (pairs_of g)) w.old w.new }
 {
     for h in 1u8..=15 {
@@ -55,7 +53,7 @@ fn write_pairs(g: u8, w: &mut Writer<'_>)
 
 // The lines of the sheets of two numbers.
 fn write_twos(w: &mut Writer<'_>)
-    requires { w.old.at + 2250 ≤ length w.old.out.now }
+    requires { RoomFor 2250 w.old }
     ensures { Writes (lines_of (plain_sheets 2)) w.old w.new }
 {
     for g in 1u8..=15 {
@@ -63,19 +61,17 @@ fn write_twos(w: &mut Writer<'_>)
     }
 }
 
-// The text, at the front of `out`.
-fn answer(out: &mut [u8; 4096]) -> usize
-    ensures { Appended short_text 0 out.old out.new result × IsPrefixLen result out.new }
+// The text, written in `out`.
+fn answer(out: &mut [u8; 4096]) -> &[u8]
+    ensures { result.now ≡ short_text }
 {
     let mut w = Writer::new(out);
     write_entry(&[64, 1, 2, 3, 4, 5, 6, 0], &mut w);
     write_ones(&mut w);
     write_twos(&mut w);
-    w.at
+    w.written()
 }
 
 fn main(rt: HostRuntime) -> Result<()> {
-    let mut text = [0u8; 4096];
-    let end = answer(&mut text);
-    rt.write_all(&text[..end])
+    rt.write_all(answer(&mut [0u8; 4096]))
 }

@@ -13,7 +13,7 @@ use std::io::Result;
 use text::Writer;
 
 // The line for two numbers, written in `out`.
-fn order_line<'a>(t: u64, p: u64, out: &'a mut [u8; 32]) -> &'a [u8]
+fn order_line(t: u64, p: u64, out: &mut [u8; 32]) -> &[u8]
     ensures { result.now ≡ answer_line (order_answer t p) }
 {
     match order::states_to_order(t, p) {

@@ -1,11 +1,9 @@
 -- The parts of the list, one after the other.
-use mathlib.Core.Path.{◌≡◌, sym, ap}
+use mathlib.Core.Path.{◌≡◌, sym, ap, ◌∙◌}
 use mathlib.Core.List.{[], ◌∷◌, ◌++◌}
 use native.Mathlib.Omega.{arith}
 use lib.ListN.{length, length-append}
-use Rattle.file.specs.Laws.Written.{appended_as}
-use Rattle.text.specs.Laws.Text.{within}
-use Rattle.text.specs.Laws.Writer.{room_front, room_after, writes_as, writes_append, writes_front}
+use Rattle.text.specs.Laws.Writer.{room_front, room_after, writes_as, writes_append, written_is}
 use Rattle.short_sheet.specs.Short.{plain_bytes, if_read, plain_sheets}
 use Rattle.list_short.specs.Output.{lines_of}
 use Rattle.list_short.specs.Laws.Output.{plain_is, text_parts, none_most, ones_most, twos_most}
@@ -40,5 +38,4 @@ returns c =
     let k = ones_most in
     let t = twos_most in
     let two = writes_append (writes_as c.write_entry.ensures first) (omega arith) c.write_ones.ensures in
-    let a = writes_front c.new-w.ensures (writes_append two (omega arith) c.write_twos.ensures) in
-    (appended_as (sym text_parts) a, within a (omega arith))
+    c.written.ensures ∙ written_is c.new-w.ensures (writes_append two (omega arith) c.write_twos.ensures) (omega arith) ∙ sym text_parts

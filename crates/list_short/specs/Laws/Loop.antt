@@ -7,7 +7,7 @@ use Prim.Native.Nat.{ℕ, zero, suc, ◌+◌, ◌*◌, ◌-◌, ◌≤◌, ◌<�
 use native.Mathlib.Omega.{arith}
 use Rattle.std.proofs.Math.ListN.{length, length-append}
 use Rattle.matrix.specs.Range.{tabulate}
-use Rattle.text.specs.Writer.{Writes}
+use Rattle.text.specs.Writer.{RoomFor, Writes}
 use Rattle.text.specs.declared.Writer.{Writer}
 use Rattle.text.specs.Laws.Writer.{writes_none, writes_as, room_after, writes_append}
 use Rattle.list_short.specs.Output.{short_line, lines_of}
@@ -79,14 +79,14 @@ pub begun_none : (F : ℕ → List (List ℕ)) (w : Writer) → Begun F w 1 w
 begun_none F w = record { from = omega arith; most = omega arith; lines = writes_as (writes_none w) (none_below F) }
 
 -- one number more, where each has at most b bytes
-module _ {F : ℕ → List (List ℕ)} {old new : Writer} (b : ℕ) (m : (g : ℕ) → length (lines_of (F g)) ≤ b) (r : old.at + 15 * b ≤ length old.out.now) {g : ℕ} (h : g ≤ 15) (s : Begun F old g new) where
+module _ {F : ℕ → List (List ℕ)} {old new : Writer} (b : ℕ) (m : (g : ℕ) → length (lines_of (F g)) ≤ b) (r : RoomFor (15 * b) old) {g : ℕ} (h : g ≤ 15) (s : Begun F old g new) where
   fits : old.at + length (lines_below F g) + b ≤ length old.out.now
   fits =
       let l = below_most F b m g in
       let u : (g - 1) * b ≤ 14 * b = mul-le-mul_right b (omega arith) in
       omega arith
 
-  pub begun_room : new.at + b ≤ length new.out.now
+  pub begun_room : RoomFor b new
   begun_room = room_after s.lines b fits
 
   pub begun_next : {last : Writer} → Writes (lines_of (F g)) new last → Begun F old (g + 1) last
