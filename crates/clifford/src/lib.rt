@@ -4,7 +4,7 @@
 
 ghost use Rattle.std.specs.Prelude.{map, ◌≡◌, ◌+◌, ◌<◌, drop, get_or};
 ghost use Rattle.matrix.specs.Matrix.{entry};
-ghost use Rattle.clifford.specs.Columns.{are_column_bytes, column_byte, column_bytes, differs, different, is_column_byte, negated, row_of, signed_byte};
+ghost use Rattle.clifford.specs.Columns.{are_column_bytes, column_byte, column_bytes, differs, different, is_column_byte, is_minus, negated, row_of, signed_byte};
 
 // The byte of column c: of its first entry that is not 0. Where there is none it is 135; no `Option`, since the definition `column_byte` has the 135.
 fn column_byte(m: [i64; 36], c: usize) -> u8
@@ -54,6 +54,13 @@ pub fn row_of(b: u8) -> u8
         1..=128 => b - 1,
         129..=255 => b - 129,
     }
+}
+
+// Whether a column's entry is −1.
+pub fn is_minus(b: u8) -> bool
+    ensures { result ≡ is_minus b }
+{
+    129 <= b
 }
 
 // The byte of −1 times a column.

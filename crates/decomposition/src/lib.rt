@@ -71,7 +71,11 @@ fn axis_number(even: bool, b: u8) -> usize
     ensures { (result ≡ axis_number even b) × (result < 6) }
 {
     let row = (clifford::row_of(b) % 3) as usize;
-    if (129 <= b) == even { row + 3 } else { row }
+    if clifford::is_minus(b) == even {
+        row + 3
+    } else {
+        row
+    }
 }
 
 // The row of the rotation table.

@@ -80,7 +80,7 @@ fn image(columns: [u8; 6], b: u8) -> u8
 {
     let row = clifford::row_of(b) as usize;
     let c = columns[row];
-    if 129 <= b {
+    if clifford::is_minus(b) {
         return clifford::negate(c);
     }
     c

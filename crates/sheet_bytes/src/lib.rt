@@ -22,7 +22,7 @@ pub const LONGEST: usize = 68;
 fn sign_byte(columns: [u8; 6]) -> u8
     ensures { result ≡ sign_byte columns }
 {
-    (129 <= columns[0]) as u8
+    clifford::is_minus(columns[0]) as u8
 }
 
 // Byte n of the sheet of a normal form.
@@ -80,7 +80,7 @@ fn is_clifford(columns: [u8; 6]) -> bool
 fn has_wrong_sign(columns: [u8; 6], sign: u8) -> bool
     ensures { result ≡ has_wrong_sign columns sign }
 {
-    1 < sign || 129 <= columns[0]
+    1 < sign || clifford::is_minus(columns[0])
 }
 
 // Whether six column bytes and a last byte earn no refusal.

@@ -30,7 +30,7 @@ fn minuses_of(columns: &[u8]) -> u8
     requires { length columns.now ≤ 6 }
     ensures { (result < 7) × (result ≡ minuses columns.now) }
 {
-    columns.iter().filter(|b| 129 <= **b).count() as u8
+    columns.iter().filter(|b| clifford::is_minus(**b)).count() as u8
 }
 
 // Whether the permutation and its minus signs make an even number: the sign of the determinant, of all six columns or of the three of one half.

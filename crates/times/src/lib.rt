@@ -86,7 +86,7 @@ fn signed_entry(m: &[i64; 36], r: usize, b: u8) -> i64
     ensures { result ≡ signed_entry (entry m.now) r b }
 {
     let row = clifford::row_of(b) as usize;
-    if 129 <= b {
+    if clifford::is_minus(b) {
         return -m[r * 6 + row];
     }
     m[r * 6 + row]
