@@ -52,7 +52,8 @@ fn pair_row(m: &[i64; 36], r: usize, partners: [usize; 6], out: &mut [i64; 36])
     }
 }
 
-// The product with a generator that has these partners.
+// The product with a generator that has these partners. Row by row: with `array::from_fn` over the 36 entries, which would make one function of this and
+// `times_columns`, a list that is read takes more than twice the instructions.
 fn times_pairs(m: &[i64; 36], partners: [usize; 6]) -> [i64; 36]
     requires { ((c : ℕ) → c < 6 → get_or partners c 0 < 6) × Bounded (2 ^ 30) (entry m.now) }
     ensures { result ≡ listed (λ r c. pair_entry (entry m.now) r c (get_or partners c 0)) }
