@@ -7,6 +7,7 @@ ghost use Rattle.clifford.specs.Columns.{are_column_bytes};
 ghost use Rattle.reduction.specs.Laws.NormalForm.{Numbers};
 ghost use Rattle.reduction.specs.Taken.{numbers_in};
 ghost use Rattle.letter.specs.Written.{Written};
+ghost use Rattle.text.specs.Writer.{RoomFor};
 ghost use Rattle.word_code.specs.Writer.{WritesWord};
 ghost use Rattle.gate_list.specs.List.{right_of, stretch, stretch_sign, gate_list, list_sign};
 ghost use Rattle.gate_list.specs.Stretches.{stretch_codes};
@@ -244,7 +245,7 @@ const STRETCHES: [u64; 225] = [
     0o6,
 ];
 
-// The place of the sign.
+// The place of the sign, which shares a number with the letters: a second table would be laid out beside this one (docs/DECISIONS.md).
 const SIGN: u64 = 0o10000000000000000;
 
 // The columns of the Clifford on the right of CS in each generator.
@@ -285,7 +286,7 @@ fn right_of(g: usize) -> [u8; 6]
 // Writes the stretch between generators g and h, and the C of h, and answers its sign.
 // Wrong, and refused: the sign taken for a letter; the sign 0 for every stretch.
 fn write_stretch(codes: &[u64; 225], g: usize, h: usize, writer: &mut Writer<'_>) -> u8
-    requires { (1 ≤ g) × (g ≤ 15) × (1 ≤ h) × (h ≤ 15) × (writer.old.at + 16 ≤ length writer.old.out.now) × (codes.now ≡ stretch_codes) }
+    requires { (1 ≤ g) × (g ≤ 15) × (1 ≤ h) × (h ≤ 15) × RoomFor 16 writer.old × (codes.now ≡ stretch_codes) }
     ensures { WritesWord (stretch (right_of g) h) writer.old writer.new × (result ≡ stretch_sign (right_of g) h) }
 {
     let code = codes[(g - 1) * 15 + (h - 1)];

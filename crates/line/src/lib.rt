@@ -60,7 +60,7 @@ pub fn write_refused(n: u8, out: &mut [u8]) -> usize
     w.at
 }
 
-// The line of a refusal, in `out`.
+// The line of a refusal, in `out`. By its number and no `Refusal`: it is the line of any number.
 pub fn refused(n: u8, out: &mut [u8]) -> &[u8]
     requires { length (refused_line n) ≤ length out.old }
     ensures { result.now ≡ refused_line n }

@@ -56,7 +56,7 @@ pub struct Listed {
     pub sign: u8,
 }
 
-// An operator file into a gate list at the front of `out`.
+// An operator file into a gate list at the front of `out`. The room is asked for here and in `unitary_gates`, each before an answer of its own.
 // Wrong, and refused: a count that is not the number of letters C; 4 for a file that earns 3 first; no L; the sign 0 for every list; L for the
 // sign.
 pub fn operator_to_gates(bytes: &[u8], out: &mut [u8]) -> Result<Listed, Refusal>

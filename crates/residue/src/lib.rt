@@ -9,7 +9,7 @@ ghost use Rattle.matrix.specs.Array.{row_mask};
 ghost use Rattle.residue.specs.Generator.{pair_rows, first_fit};
 ghost use Rattle.residue.specs.Masks.{AreRows, mask_at, pairs_fit, has_even_row};
 
-// The three pairs of each generator, in the order of their numbers; rows are counted from 0.
+// The three pairs of each generator, in the order of their numbers; rows are counted from 0. One after the other, as the definition `pair_rows` has them.
 const PAIRS: [[u8; 6]; 15] = [
     [0, 1, 2, 3, 4, 5],
     [0, 1, 2, 4, 3, 5],

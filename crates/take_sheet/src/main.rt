@@ -62,7 +62,8 @@ fn push_all(more: &[u8], bytes: &mut [u8])
     }
 }
 
-// Reads on to the end of the input. What is longer than any bundle is refused by its last two bytes alone (`last_refused`).
+// Reads on to the end of the input. What is longer than any bundle is refused by its last two bytes alone (`last_refused`). The loop is like that of
+// `read_qasm`, but what is kept of a part, and what ends it early, differ.
 fn read_on<R: Read>(input: &mut R, bytes: &mut [u8]) -> Result<()>
     requires { 2 ≤ length bytes.old }
     ensures last { OnOk result (IfSome (R.remaining input.old) (λ more. length more < 2 ^ 64 → last_two bytes.new ≡ last_two (bytes.old ++ more))) }

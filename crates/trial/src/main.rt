@@ -26,16 +26,16 @@ const BUNDLE: [u8; 35] = *b"\
 
 // The operator file of x times the identity, with another first entry.
 fn diagonal(k: u8, first: u16, x: u16) -> [u8; file::SHORT_LENGTH] {
-    let lo = (x % 256) as u8;
-    let hi = (x / 256) as u8;
+    let [lo, hi] = x.to_le_bytes();
+    let [first_lo, first_hi] = first.to_le_bytes();
     let mut file = [0u8; file::SHORT_LENGTH];
     for n in 0..6 {
         file[14 * n + 1] = lo;
         file[14 * n + 2] = hi;
     }
     file[0] = k;
-    file[1] = (first % 256) as u8;
-    file[2] = (first / 256) as u8;
+    file[1] = first_lo;
+    file[2] = first_hi;
     file
 }
 

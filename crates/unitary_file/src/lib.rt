@@ -17,7 +17,7 @@ pub const UNITARY_LENGTH: usize = 65;
 // The largest exponent that they may carry.
 pub const LARGEST_UNITARY: u8 = 29;
 
-// A unitary: its exponent k, and its entries row by row, real then imaginary part.
+// A unitary: its exponent k, and its entries row by row, real then imaginary part, as the bytes and the definition `matrix_of` have them.
 #[derive(Clone, Copy)]
 pub struct Entries {
     pub exponent: u8,

@@ -2,8 +2,9 @@
 
 #![tactic(auto)]
 
-ghost use Rattle.std.specs.Prelude.{List, ◌≡◌, ◌+◌, ◌≤◌, length};
+ghost use Rattle.std.specs.Prelude.{List, ◌≡◌, ◌≤◌, length};
 ghost use Rattle.letter.specs.declared.Gate.{Gate};
+ghost use Rattle.text.specs.Writer.{RoomFor};
 ghost use Rattle.word_code.specs.Code.{letter_at, encoded};
 ghost use Rattle.word_code.specs.Writer.{WritesWord};
 
@@ -29,7 +30,7 @@ const LONGEST: usize = 16;
 
 // Writes the letters of a number; the rest of the buffer stays.
 pub fn write_code(code: u64, writer: &mut Writer<'_>)
-    requires { writer.old.at + 16 ≤ length writer.old.out.now }
+    requires { RoomFor 16 writer.old }
     ensures { (w : List Gate) → code ≡ encoded w → length w ≤ 16 → WritesWord w writer.old writer.new }
 {
     let mut rest = code;

@@ -2,7 +2,8 @@
 
 #![tactic(auto)]
 
-ghost use Rattle.std.specs.Prelude.{[], map, ◌≡◌, ◌+◌, ◌<◌, ◌≤◌, length, get_or};
+ghost use Rattle.std.specs.Prelude.{[], map, ◌≡◌, ◌+◌, ◌<◌, get_or};
+ghost use Rattle.text.specs.Writer.{RoomFor};
 ghost use Rattle.word.specs.Word.{part_words, rotation_words, on_second, rotations_of, parts_of, clifford_word, word_sign};
 ghost use Rattle.word_code.specs.Code.{encoded};
 ghost use Rattle.word_code.specs.Writer.{WritesWord};
@@ -47,7 +48,7 @@ fn part_code(part: usize) -> u64
 
 // Writes both rotations.
 fn write_rotations(even: bool, local: [u8; 6], writer: &mut Writer<'_>)
-    requires { writer.old.at + 24 ≤ length writer.old.out.now }
+    requires { RoomFor 24 writer.old }
     ensures { WritesWord (rotations_of even local) writer.old writer.new }
 {
     let first = decomposition::rotation_row(even, local[0], local[1]);
@@ -58,7 +59,7 @@ fn write_rotations(even: bool, local: [u8; 6], writer: &mut Writer<'_>)
 
 // Writes both parts.
 fn write_parts(columns: [u8; 6], writer: &mut Writer<'_>)
-    requires { writer.old.at + 25 ≤ length writer.old.out.now }
+    requires { RoomFor 25 writer.old }
     ensures { WritesWord (parts_of columns) writer.old writer.new }
 {
     let first = decomposition::low_bits(columns, 0);
@@ -70,7 +71,7 @@ fn write_parts(columns: [u8; 6], writer: &mut Writer<'_>)
 // Writes the word of a Clifford and answers its sign; the rest of the buffer stays.
 // Wrong, and refused: the sign 0, or 1, for every Clifford; ZZZ in place of Z.
 pub fn write_clifford(columns: [u8; 6], writer: &mut Writer<'_>) -> u8
-    requires { writer.old.at + 37 ≤ length writer.old.out.now }
+    requires { RoomFor 37 writer.old }
     ensures { WritesWord (clifford_word columns) writer.old writer.new × (result ≡ word_sign columns) }
 {
     let local = decomposition::local_columns(columns);
