@@ -6,7 +6,7 @@ use Rattle.file.specs.File.{Appended}
 use Rattle.file.specs.Laws.Written.{appended_as, appended_none, appended_append, appended_length}
 use Rattle.text.specs.Writer.{Begins, RoomFor, Room, Writes}
 use Rattle.text.specs.declared.Writer.{Writer}
-use Rattle.text.specs.Laws.Text.{within, taken}
+use Rattle.text.specs.Laws.Text.{taken}
 
 pub writes_none : (w : Writer) → Writes [] w w
 writes_none w = record { bytes = appended_none w.at w.out.now; lent = refl }
@@ -32,9 +32,6 @@ module _ {out : MutBor (List ℕ)} {w : Writer} (b : Begins out w) where
   writes_front {bs} {last} h =
       subst (λ at. Appended bs at out.now last.out.now last.at) b.at (subst (λ old. Appended bs w.at old last.out.now last.at) b.buffer h.bytes)
 
-  -- what it has written, and that this lies within its buffer
-  pub written_within : {bs : List ℕ} {last : Writer} → Writes bs w last → length bs ≤ length out.now → last.at ≤ length last.out.now
-  written_within h fits = (within (writes_front h) fits).0
-
+  -- what it has written
   pub written_is : {bs : List ℕ} {last : Writer} → Writes bs w last → length bs ≤ length out.now → take last.at last.out.now ≡ bs
   written_is h fits = taken (writes_front h) fits
