@@ -2,7 +2,7 @@
 
 #![tactic(auto)]
 
-ghost use Rattle.std.specs.Prelude.{◌≡◌, true, ℕ, ◌^◌, ◌≤◌, ◌<◌, get_or};
+ghost use Rattle.std.specs.Prelude.{◌≡◌, true, ℕ, ℤ, ◌^◌, ◌≤◌, ◌<◌, get_or};
 ghost use Rattle.matrix.specs.Matrix.{δ, entry, listed, product, replaced};
 ghost use Rattle.matrix.specs.Array.{Bounded};
 ghost use Rattle.clifford.specs.Columns.{columns_matrix, is_column_byte, are_permutation};
@@ -42,27 +42,34 @@ fn pair_entry(m: &[i64; 36], r: usize, c: usize, p: usize) -> i64
     m[r * 6 + c] - m[r * 6 + p]
 }
 
-// Row r of the product with a generator, into `out`.
-fn pair_row(m: &[i64; 36], r: usize, partners: [usize; 6], out: &mut [i64; 36])
-    requires { (r < 6) × ((c : ℕ) → c < 6 → get_or partners c 0 < 6) × Bounded (2 ^ 30) (entry m.now) }
-    ensures { out.new ≡ listed (replaced r (λ c. pair_entry (entry m.now) r c (get_or partners c 0)) (entry out.old)) }
+// Row r of the numbers that `at` gives, into `out`.
+fn fill_row<F: Fn(usize, usize) -> i64>(at: &F, r: usize, out: &mut [i64; 36])
+    requires { (r < 6) × ((c : ℕ) → c < 6 → F.pre at.now r c) }
+    ensures { (f : ℕ → ℤ) → ((c : ℕ) (x : ℤ) → c < 6 → F.post at.now r c x → x ≡ f c) → out.new ≡ listed (replaced r f (entry out.old)) }
 {
     for c in 0..6 {
-        out[r * 6 + c] = pair_entry(m, r, c, partners[c]);
+        out[r * 6 + c] = at(r, c);
     }
 }
 
-// The product with a generator that has these partners. Row by row: with `array::from_fn` over the 36 entries, which would make one function of this and
-// `times_columns`, a list that is read takes more than twice the instructions.
+// The numbers that `at` gives, row by row.
+fn fill<F: Fn(usize, usize) -> i64>(at: F) -> [i64; 36]
+    requires { (r c : ℕ) → r < 6 → c < 6 → F.pre at r c }
+    ensures { (f : ℕ → ℕ → ℤ) → ((r c : ℕ) (x : ℤ) → r < 6 → c < 6 → F.post at r c x → x ≡ f r c) → result ≡ listed f }
+{
+    let mut out = [0i64; 36];
+    for r in 0..6 {
+        fill_row(&at, r, &mut out);
+    }
+    out
+}
+
+// The product with a generator that has these partners.
 fn times_pairs(m: &[i64; 36], partners: [usize; 6]) -> [i64; 36]
     requires { ((c : ℕ) → c < 6 → get_or partners c 0 < 6) × Bounded (2 ^ 30) (entry m.now) }
     ensures { result ≡ listed (λ r c. pair_entry (entry m.now) r c (get_or partners c 0)) }
 {
-    let mut out = [0i64; 36];
-    for r in 0..6 {
-        pair_row(m, r, partners, &mut out);
-    }
-    out
+    fill(|r, c| pair_entry(m, r, c, partners[c]))
 }
 
 // The product with generator g on the right.
@@ -93,26 +100,12 @@ fn signed_entry(m: &[i64; 36], r: usize, b: u8) -> i64
     m[r * 6 + row]
 }
 
-// Row r of the product with a Clifford, into `out`.
-fn signed_row(m: &[i64; 36], r: usize, columns: [u8; 6], out: &mut [i64; 36])
-    requires { (r < 6) × (are_permutation columns ≡ true) × Bounded (2 ^ 30) (entry m.now) }
-    ensures { out.new ≡ listed (replaced r (λ c. signed_entry (entry m.now) r (get_or columns c 0)) (entry out.old)) }
-{
-    for c in 0..6 {
-        out[r * 6 + c] = signed_entry(m, r, columns[c]);
-    }
-}
-
 // The product with the Clifford of these columns on the right.
 pub fn times_columns(m: [i64; 36], columns: [u8; 6]) -> [i64; 36]
     requires { (are_permutation columns ≡ true) × Bounded (2 ^ 30) (entry m) }
     ensures { result ≡ listed (product 6 (entry m) (columns_matrix columns)) }
 {
-    let mut out = [0i64; 36];
-    for r in 0..6 {
-        signed_row(&m, r, columns, &mut out);
-    }
-    out
+    fill(|r, c| signed_entry(&m, r, columns[c]))
 }
 
 // An entry of the identity.

@@ -1,10 +1,9 @@
-use native.Mathlib.Omega.{arith}
-use Rattle.matrix.specs.Laws.Rows.{rows_more, rows_all}
+use borrow.Author.Rules.{rules}
+use borrow.Author.Tests.{tests}
+use lib.ListN.{get_or}
+use Rattle.matrix.specs.Matrix.{entry}
+use Rattle.times.specs.Times.{pair_entry}
 use Rattle.times.proofs.times_pairs.Goals as goal
 
-pub loop-r-preserved : goal.loop-r-preserved
-loop-r-preserved c =
-    rows_more _ c.loop-r.r c.loop-r.out _ (omega arith) c.loop-r.invariant c.pair_row.ensures
-
 pub returns : goal.returns
-returns c = rows_all _ c.loop-r.r c.loop-r.out (omega arith) c.loop-r.invariant
+returns c = c.fill.ensures (λ r i. pair_entry (entry c.args.m.now) r i (get_or c.args.partners i 0)) (λ r i x u v q. search (rules, tests))
