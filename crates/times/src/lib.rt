@@ -42,7 +42,7 @@ fn pair_entry(m: &[i64; 36], r: usize, c: usize, p: usize) -> i64
     m[r * 6 + c] - m[r * 6 + p]
 }
 
-// Row r of the numbers that `at` gives, into `out`.
+// Row r of the numbers that `at` gives, into `out`: those of any f that has each of its answers.
 fn fill_row<F: Fn(usize, usize) -> i64>(at: &F, r: usize, out: &mut [i64; 36])
     requires { (r < 6) × ((c : ℕ) → c < 6 → F.pre at.now r c) }
     ensures { (f : ℕ → ℤ) → ((c : ℕ) (x : ℤ) → c < 6 → F.post at.now r c x → x ≡ f c) → out.new ≡ listed (replaced r f (entry out.old)) }
@@ -52,7 +52,7 @@ fn fill_row<F: Fn(usize, usize) -> i64>(at: &F, r: usize, out: &mut [i64; 36])
     }
 }
 
-// The numbers that `at` gives, row by row.
+// The numbers that `at` gives, row by row. Two loops of six are unrolled; `array::from_fn` is one of 36, which divides for the row and the column.
 fn fill<F: Fn(usize, usize) -> i64>(at: F) -> [i64; 36]
     requires { (r c : ℕ) → r < 6 → c < 6 → F.pre at r c }
     ensures { (f : ℕ → ℕ → ℤ) → ((r c : ℕ) (x : ℤ) → r < 6 → c < 6 → F.post at r c x → x ≡ f r c) → result ≡ listed f }
