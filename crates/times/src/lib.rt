@@ -115,7 +115,7 @@ fn unit(r: usize, c: usize) -> i64
     (r == c) as i64
 }
 
-// The identity.
+// The identity. `fill` would be unrolled in each of its callers, 36 entries at a time.
 pub fn identity() -> [i64; 36]
     ensures { result ≡ listed δ }
 {
