@@ -67,7 +67,7 @@ fn has_sheets(bytes: &[u8], count: usize) -> bool
     at == bytes.len() - (2 * count + 2)
 }
 
-// Whether a bundle and the number of a sheet earn no refusal.
+// Whether a bundle and the number of a sheet earn no refusal. Each call takes the two as docs/USE.md names them.
 // Wrong, and refused: 513 sheets taken; 22 before 21; offsets that are trusted, and not followed from sheet to sheet; a gap before the trailer.
 pub fn check_bundle(bytes: &[u8], n: u64) -> Result<(), Refusal>
     ensures { refusal_of (numbered result) ≡ bundle_refusal bytes.now n }

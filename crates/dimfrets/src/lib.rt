@@ -1,6 +1,6 @@
 // The calls for programs in other languages (include/dimfrets.h). The contracts are those of the calls, through
 // the words of `answer_word`; wrong, and refused there: the count in the bits of a length, a value beside a refusal, a refusal
-// beside the number of bytes written.
+// beside the number of bytes written. An input and an output each, as C hands them over.
 
 #![tactic(auto)]
 

@@ -50,7 +50,7 @@ pub fn write_line(word: Word, numbers: &[u8], w: &mut Writer<'_>)
     w.line(word.bytes(), numbers);
 }
 
-// The line of a refusal, at the front of `out`.
+// The line of a refusal, at the front of `out`, and how many bytes it has: for `read_qasm`, which says of what was lent to it what it holds after an error.
 pub fn write_refused(n: u8, out: &mut [u8]) -> usize
     requires { length (refused_line n) ≤ length out.old }
     ensures { Appended (refused_line n) 0 out.old out.new result }
@@ -61,6 +61,7 @@ pub fn write_refused(n: u8, out: &mut [u8]) -> usize
 }
 
 // The line of a refusal, in `out`. By its number and no `Refusal`: it is the line of any number.
+// Wrong, and refused: the line without its line feed.
 pub fn refused(n: u8, out: &mut [u8]) -> &[u8]
     requires { length (refused_line n) ≤ length out.old }
     ensures { result.now ≡ refused_line n }

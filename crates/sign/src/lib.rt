@@ -5,7 +5,8 @@
 ghost use Rattle.std.specs.Prelude.{map, ◌≡◌, ◌+◌, ◌<◌, ◌≤◌, drop, get_or, length};
 ghost use Rattle.clifford.specs.Columns.{below, inversions, is_even, minuses, row_of};
 
-// How many columns after c have their row below that of column c.
+// How many columns after c have their row below that of column c. That there are at most six is a clause of these three: with an array of a const length
+// in its place, the part behind c is one that the borrow checker does not cover.
 fn rows_below(columns: &[u8], c: usize) -> u8
     requires { (c < length columns.now) × (length columns.now ≤ 6) }
     ensures { (result < 6) × (result ≡ below (row_of (get_or columns.now c 0)) (map row_of (drop (c + 1) columns.now))) }

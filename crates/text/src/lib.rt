@@ -17,6 +17,7 @@ pub struct Writer<'a> {
 
 impl<'a> Writer<'a> {
     // At the front of a buffer.
+    // Wrong, and refused: behind its first place.
     pub fn new(out: &'a mut [u8]) -> Writer<'a>
         ensures { Begins out.entry result }
     {
@@ -24,6 +25,7 @@ impl<'a> Writer<'a> {
     }
 
     // The bytes that were written.
+    // Wrong, and refused: all but the last one.
     pub fn written(self) -> &'a [u8]
         requires { self.at ≤ length self.out.now }
         ensures { result.now ≡ take self.entry.at self.entry.out.now }
@@ -33,6 +35,7 @@ impl<'a> Writer<'a> {
     }
 
     // One byte.
+    // Wrong, and refused: each at the place of the one before.
     pub fn byte(&mut self, b: u8)
         requires { Room (b ∷ []) self.old }
         ensures { Writes (b ∷ []) self.old self.new }
@@ -43,6 +46,7 @@ impl<'a> Writer<'a> {
 
     // Bytes as they are. One after the other, for the compiler makes more of that than of `copy_from_slice`, with which a bundle takes twice the
     // instructions.
+    // Wrong, and refused: the first one for each.
     pub fn bytes(&mut self, bytes: &[u8])
         requires { Room bytes.now self.old }
         ensures { Writes bytes.now self.old self.new }
@@ -53,6 +57,7 @@ impl<'a> Writer<'a> {
     }
 
     // A number in decimal.
+    // Wrong, and refused: the number that is one less.
     pub fn decimal(&mut self, n: u8)
         requires { Room (decimal n) self.old }
         ensures { Writes (decimal n) self.old self.new }
@@ -80,6 +85,7 @@ impl<'a> Writer<'a> {
     }
 
     // A line of a word and numbers.
+    // Wrong, and refused: a space at its end.
     pub fn line(&mut self, word: &[u8], numbers: &[u8])
         requires { Room (line word.now numbers.now) self.old }
         ensures { Writes (line word.now numbers.now) self.old self.new }
