@@ -32,7 +32,7 @@ def functions():
     for path in sorted(glob.glob('crates/*/src/*.rt')):
         crate = path.split('/')[1]
         text = open(path).read()
-        for found in re.finditer(r'fn (\w+)(?:<[^(]*>)?\(([^)]*)\)', text):
+        for found in re.finditer(r'fn (\w+)(?:<.*?>)?\(([^)]*)\)', text):
             clauses = []
             for line in text[found.end() :].split('\n')[1:]:
                 clause = re.match(r' +requires (?:\w+ )?\{ (.*) \}$', line)

@@ -34,7 +34,7 @@ fn pack(refusal: u8, value: u32, length: u16, loose: u8, phase: u8) -> u64
         + PHASE * (phase as u64)
 }
 
-// The word of a refusal, by its number, and no `Refusal`: it holds of every number from 1 on.
+// The word of a refusal, by its number and no `Refusal`: what is promised of a word (`parts_back`) is promised for every number from 1 on.
 // Wrong, and refused: a value beside a refusal.
 pub fn encode_refusal(number: u8) -> u64
     requires { 1 ≤ number }

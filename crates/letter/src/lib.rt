@@ -86,7 +86,7 @@ fn image(columns: [u8; 6], b: u8) -> u8
     c
 }
 
-// The columns of a product. A loop, for `from_fn` would ask that each call of its closure is allowed, where the loop's index shows it.
+// The columns of a product. A loop over six: with `from_fn` it would be no shorter, and its closure would have to show of each byte that it is a column's.
 pub fn compose(left: [u8; 6], right: [u8; 6]) -> [u8; 6]
     requires { are_column_bytes right ≡ true }
     ensures { result ≡ composed left right }

@@ -60,7 +60,7 @@ pub fn write_refused(n: u8, out: &mut [u8]) -> usize
     w.at
 }
 
-// The line of a refusal, in `out`. By its number and no `Refusal`: it is the line of any number.
+// The line of a refusal, in `out`, by its number, as the definition `refused_line` has it.
 // Wrong, and refused: the line without its line feed.
 pub fn refused(n: u8, out: &mut [u8]) -> &[u8]
     requires { length (refused_line n) ≤ length out.old }

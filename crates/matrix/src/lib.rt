@@ -2,7 +2,8 @@
 // The contracts cite the definitions of specs/Array.antt; entries of at most 2^30 in size leave room for the sum of six products.
 //
 // Facts that stay clauses, here and in the crates above: that an index is below 4 or 6, for a range or a table gives it as a number and `i * 6 + c` or the
-// table takes it as one; and that entries are bounded, for a sum of two of them may not be, and what bounds them is that an operator is orthogonal.
+// table takes it as one, apart from the matrix, which is lent for all of its indices; and that entries are bounded, for a sum of two of them may not be, and
+// what bounds them is that an operator is orthogonal.
 
 #![tactic(auto)]
 

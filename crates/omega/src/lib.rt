@@ -117,7 +117,7 @@ fn exponent_of(x: u64) -> u8
 }
 
 // The power of ω by which the letters give the unitary (k, n), where they give it by some power.
-// The numbers may be any, where those of a `unitary_file::Entries` are small; so they come apart.
+// The exponent and the numbers come apart, and are no `Entries` of `unitary_file`: docs/THEOREMS.md names this function, which takes any of them.
 // Wrong, and refused: the second half of the letters left out; every second letter left out; the first letter in place of each; the power read from place
 // 1; the exponent k left out.
 pub fn power_of(k: u8, n: [i64; 32], letters: &[u8]) -> u8

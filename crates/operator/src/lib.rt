@@ -56,7 +56,8 @@ pub struct Listed {
     pub sign: u8,
 }
 
-// An operator file into a gate list at the front of `out`. The room is asked for here and in `unitary_gates`, each before an answer of its own.
+// An operator file into a gate list at the front of `out`. The room is asked for by one `if` here and in
+// `unitary_gates`; a function of both would bring refusals into `gate_list`, and a definition of what it hands out.
 // Wrong, and refused: a count that is not the number of letters C; 4 for a file that earns 3 first; no L; the sign 0 for every list; L for the
 // sign.
 pub fn operator_to_gates(bytes: &[u8], out: &mut [u8]) -> Result<Listed, Refusal>

@@ -53,7 +53,7 @@ fn pairs_fit(masks: &[u8; 6], pairs: [u8; 6]) -> bool
 }
 
 // The lowest-numbered generator whose every pair lies inside a group of rows, or 16; no `Option`, since the definition `first_fit` has the 16.
-// The table is named once, before a loop, since it is laid out wherever it is named.
+// A loop, since by `position` the number would be `map_or(16, |i| i + 1)` of a place; the table is named before it, since it is laid out where it is named.
 pub fn first_fit(masks: [u8; 6]) -> usize
     ensures { result ≡ first_fit (mask_at masks) }
 {

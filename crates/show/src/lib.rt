@@ -1,5 +1,5 @@
 // A line for a call: what is handed in, and what it answers. Those of gate lists are in `show_gates`. The handle, a case's name and what is handed in come
-// apart, since each line is one call with them.
+// apart: a struct of them would be built for the one call of each case.
 
 #![tactic(auto)]
 
