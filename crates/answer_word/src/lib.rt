@@ -59,7 +59,7 @@ pub trait Answer {
 }
 
 // The word of an answer.
-// Wrong, and refused: the number of one refusal for all.
+// Wrong, and refused: the number of one refusal for all; that of another for one.
 pub fn encode<A: Answer>(answer: Result<A, Refusal>) -> u64
     requires { A.Room (numbered answer) }
     ensures { WordOf (A.parts (numbered answer)) result }

@@ -57,7 +57,7 @@ pub fn row_of(b: u8) -> u8
 }
 
 // Whether a column's entry is −1.
-// Wrong, and refused: −1 in row 1 taken for +1.
+// Wrong, and refused: −1 in row 1 taken for +1; 128 taken for a column.
 pub fn is_minus(b: u8) -> bool
     ensures { result ≡ is_minus b }
 {

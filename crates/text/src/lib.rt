@@ -17,7 +17,7 @@ pub struct Writer<'a> {
 
 impl<'a> Writer<'a> {
     // At the front of a buffer.
-    // Wrong, and refused: behind its first place.
+    // Wrong, and refused: behind its first place; at its end.
     pub fn new(out: &'a mut [u8]) -> Writer<'a>
         ensures { Begins out.entry result }
     {
@@ -25,7 +25,7 @@ impl<'a> Writer<'a> {
     }
 
     // The bytes that were written.
-    // Wrong, and refused: all but the last one.
+    // Wrong, and refused: all but the last one; one more.
     pub fn written(self) -> &'a [u8]
         requires { self.at ≤ length self.out.now }
         ensures { result.now ≡ take self.entry.at self.entry.out.now }
@@ -35,7 +35,7 @@ impl<'a> Writer<'a> {
     }
 
     // One byte.
-    // Wrong, and refused: each at the place of the one before.
+    // Wrong, and refused: each at the place of the one before; without its highest bit.
     pub fn byte(&mut self, b: u8)
         requires { Room (b ∷ []) self.old }
         ensures { Writes (b ∷ []) self.old self.new }
@@ -46,7 +46,7 @@ impl<'a> Writer<'a> {
 
     // Bytes as they are. One after the other, for the compiler makes more of that than of `copy_from_slice`, with which a bundle takes twice the
     // instructions.
-    // Wrong, and refused: the first one for each.
+    // Wrong, and refused: the first one for each; the last one left out.
     pub fn bytes(&mut self, bytes: &[u8])
         requires { Room bytes.now self.old }
         ensures { Writes bytes.now self.old self.new }
