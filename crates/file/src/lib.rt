@@ -5,7 +5,7 @@
 
 ghost use Rattle.std.specs.Prelude.{◌≡◌, ◌+◌, ◌*◌, ◌<◌, ◌≤◌, length};
 ghost use Rattle.refusal.specs.Refusal.{numbered};
-ghost use Rattle.file.specs.File.{Fits, short_file, long_file, entry_of, exponent_of, file_matrix, file_of, is_length, kind_for, kind_of, length_for, length_of, two_at, written};
+ghost use Rattle.file.specs.File.{Fits, short_file, long_file, entry_of, exponent_of, file_matrix, file_of, is_length, kind_for, kind_of, length_for, length_of, two_at, width_of, written};
 ghost use Rattle.file.specs.Writing.{FileWritten};
 
 use matrix::Scaled;
@@ -95,21 +95,29 @@ pub fn decode(bytes: &[u8]) -> [i64; 36]
     array::from_fn(|n| entry_at(bytes, n))
 }
 
+// The file of an operator at the front of `out`, with entries of W bytes, as its exponent calls for. The width is a constant, so that an entry is stored
+// without a call of memcpy.
+fn encode_as<const W: usize>(operator: &Scaled, out: &mut [u8])
+    requires { (W ≡ width_of (kind_for operator.now.exponent)) × (length_for operator.now.exponent ≤ length out.old) × Fits (kind_for operator.now.exponent) operator.now.matrix }
+    ensures { out.new ≡ written out.old (file_of operator.now.exponent operator.now.matrix) }
+{
+    out[0] = operator.exponent;
+    for n in 0..36 {
+        let at = 1 + W * n;
+        let bits = (operator.matrix[n] as i32).to_le_bytes();
+        out[at..at + W].copy_from_slice(&bits[..W]);
+    }
+}
+
 // The file of an operator, of the kind that its exponent calls for, at the front of `out`; the bytes past it stay.
 pub fn encode(operator: &Scaled, out: &mut [u8])
     requires { (length_for operator.now.exponent ≤ length out.old) × Fits (kind_for operator.now.exponent) operator.now.matrix }
     ensures { out.new ≡ written out.old (file_of operator.now.exponent operator.now.matrix) }
 {
-    let width = if operator.exponent <= SHORT_EXPONENT {
-        2
+    if operator.exponent <= SHORT_EXPONENT {
+        encode_as::<2>(operator, out);
     } else {
-        4
-    };
-    out[0] = operator.exponent;
-    for n in 0..36 {
-        let at = 1 + width * n;
-        let bits = (operator.matrix[n] as i32).to_le_bytes();
-        out[at..at + width].copy_from_slice(&bits[..width]);
+        encode_as::<4>(operator, out);
     }
 }
 

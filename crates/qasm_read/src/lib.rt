@@ -59,19 +59,41 @@ fn line_at(text: &[u8], at: usize, line: &[u8], gate: Gate) -> Option<Statement>
     after(text, at, line).map(|end| Statement { gate, end })
 }
 
-// The statement that stands at a place.
+// The statement that stands at a place. Each line is tried by itself: with `or_else` what was found is copied from try to try, and a text takes nearly twice
+// the instructions.
 fn statement_at(text: &[u8], at: usize) -> Option<Statement>
     requires { at ≤ length text.now }
     ensures { LineAt text.now at result }
 {
-    line_at(text, at, &qasm::H_FIRST, Gate::H1)
-        .or_else(|| line_at(text, at, &qasm::H_SECOND, Gate::H2))
-        .or_else(|| line_at(text, at, &qasm::S_FIRST, Gate::S1))
-        .or_else(|| line_at(text, at, &qasm::S_SECOND, Gate::S2))
-        .or_else(|| line_at(text, at, &qasm::CZ, Gate::Cz))
-        .or_else(|| line_at(text, at, &CZ_REVERSED, Gate::Cz))
-        .or_else(|| line_at(text, at, &qasm::CS, Gate::Cs))
-        .or_else(|| line_at(text, at, &CS_REVERSED, Gate::Cs))
+    let statement = line_at(text, at, &qasm::H_FIRST, Gate::H1);
+    if statement.is_some() {
+        return statement;
+    }
+    let statement = line_at(text, at, &qasm::H_SECOND, Gate::H2);
+    if statement.is_some() {
+        return statement;
+    }
+    let statement = line_at(text, at, &qasm::S_FIRST, Gate::S1);
+    if statement.is_some() {
+        return statement;
+    }
+    let statement = line_at(text, at, &qasm::S_SECOND, Gate::S2);
+    if statement.is_some() {
+        return statement;
+    }
+    let statement = line_at(text, at, &qasm::CZ, Gate::Cz);
+    if statement.is_some() {
+        return statement;
+    }
+    let statement = line_at(text, at, &CZ_REVERSED, Gate::Cz);
+    if statement.is_some() {
+        return statement;
+    }
+    let statement = line_at(text, at, &qasm::CS, Gate::Cs);
+    if statement.is_some() {
+        return statement;
+    }
+    line_at(text, at, &CS_REVERSED, Gate::Cs)
 }
 
 // The statements that stand one after the other from a place on.

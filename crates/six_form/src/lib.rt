@@ -82,7 +82,9 @@ fn basis(c: usize) -> (usize, Gaussian, Gaussian)
     ensures lower { (result.1 ≡ basis (place_of c) c) × Within 1 result.1 }
     ensures upper { (result.2 ≡ basis (5 - place_of c) c) × Within 1 result.2 }
 {
-    BASIS[c]
+    // By reference: the table itself would be laid on the stack at each call.
+    let basis = &BASIS;
+    basis[c]
 }
 
 // The minors times the basis: two of the six products count.

@@ -1,8 +1,9 @@
 -- The bits and the bytes of an entry.
-use Rattle.std.specs.Prelude.{◌≡◌, refl, Bool, true, false, cond, List, [], ◌∷◌, ℕ, zero, suc, ◌+◌, ◌*◌, ◌-◌, ◌/◌, ◌%◌, ◌^◌, ◌<◌, ◌≤◌, ltb, ℤ, pos, negsuc, nat_abs, ◌-ℤ◌, get_or, take}
-use Rattle.std.proofs.Common.{sym, ap, ap₂, ◌∙◌, mod-eq_of_lt, arith, lt-ltb, le-ltb, ltb-true, ltb-false}
+use Rattle.std.specs.Prelude.{◌≡◌, refl, Bool, true, false, cond, List, [], ◌∷◌, ℕ, zero, suc, ◌+◌, ◌*◌, ◌-◌, ◌/◌, ◌%◌, ◌^◌, ◌<◌, ◌≤◌, T, ltb, ℤ, pos, negsuc, nat_abs, ◌+ℤ◌, ◌-ℤ◌, get_or, take}
+use Rattle.std.proofs.Common.{sym, ap, ap₂, ◌∙◌, subst, mod-eq_of_lt, arith, lt-ltb, le-ltb, ltb-true, ltb-false}
 use Rattle.std.proofs.Math.Nat.{div-div-eq-div-mul}
 use Rattle.std.specs.Int.{w32, cast_unsigned, to_le_bytes}
+use Rattle.std.specs.Int.Signed.{lt_z}
 use Rattle.matrix.specs.Range.{tabulate}
 use Rattle.file.specs.File.{Kind, short_file, long_file, width_of, highest_of, signed_of, two_at, entry_bits, bits_of, byte_of, file_byte}
 
@@ -16,6 +17,16 @@ module _ (h : ℕ) where
   pub bits_lt : (x : ℤ) → nat_abs x < h → bits_of h x < 2 * h
   bits_lt (pos n) f = omega arith
   bits_lt (negsuc n) f = omega arith
+
+  -- the bits of a number below zero
+  pub bits_negative : (x : ℤ) → nat_abs x < h → lt_z x (pos 0) ≡ true → x +ℤ pos (2 * h) ≡ pos (bits_of h x)
+  bits_negative (pos n) f t = let l = ltb-true n 0 t in absurd (omega arith)
+  bits_negative (negsuc n) f t = let l : suc n ≤ 2 * h = omega arith in rw (le-ltb (2 * h) (suc n) l)
+
+  -- and of one that is not below
+  pub bits_positive : (x : ℤ) → lt_z x (pos 0) ≡ false → x ≡ pos (bits_of h x)
+  bits_positive (pos n) t = refl
+  bits_positive (negsuc n) t = absurd (subst T t tt)
 
   pub signed_bits : (x : ℤ) → nat_abs x < h → signed_of h (bits_of h x) ≡ x
   signed_bits (pos n) f = rw (lt-ltb n h f)

@@ -30,7 +30,11 @@ highest_small : (t : Kind) → highest_of t ≤ 2 ^ 31
 highest_small short_file = omega arith
 highest_small long_file = omega arith
 
--- the low bytes of an entry that fits, as the machine has it
+-- an entry that fits, as the machine has it
+pub stored_entry : (t : Kind) (m : List ℤ) → Fits t m → (n : ℕ) → n < 36 → to_z w64 (of_z w64 (get_or m n (pos 0))) ≡ get_or m n (pos 0)
+stored_entry t m f n l = let h = mag_le (get_or m n (pos 0)) in let u = highest_small t in let x = f.below n l in kept (omega arith)
+
+-- and its low bytes
 pub stored_bytes : (t : Kind) (p : ℕ) → p ≡ width_of t → (m : List ℤ) → Fits t m → (n : ℕ) → n < 36
     → take p (to_le_bytes w32 (of_z w32 (to_z w32 (of_z w32 (to_z w64 (of_z w64 (get_or m n (pos 0)))))))) ≡ tabulate (byte_of (bits_of (highest_of t) (get_or m n (pos 0)))) 0 (width_of t)
 stored_bytes t p s m f n l =
@@ -38,7 +42,7 @@ stored_bytes t p s m f n l =
     let h = mag_le x in
     let u = highest_small t in
     let b = f.below n l in
-    let e : to_z w64 (of_z w64 x) ≡ x = kept (omega arith) in
+    let e = stored_entry t m f n l in
     let k : to_z w32 (of_z w32 x) ≡ x = to_z-of_z {w = w32} (record { sfits = omega arith }) in
     rw (e, k) (ap (λ q. take q (to_le_bytes w32 (of_z w32 x))) s ∙ low_bytes t x b)
 

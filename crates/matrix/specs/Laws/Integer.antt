@@ -1,8 +1,10 @@
 -- The laws of ℤ that the kit's `lib.IntN` lacks: the ring laws of the product, sizes (`nat_abs`), cancellation, equality as a test, and
 -- the sign of a product.
 use Rattle.std.specs.Prelude.{◌≡◌, refl, ◌≢◌, ◌⊎◌, Bool, true, false, not, cond, ℕ, zero, suc, ◌+◌, ◌*◌, ◌-◌, ◌<◌, ◌≤◌, T, ltb, ℤ, pos, negsuc, neg_ℤ, nat_abs, ◌+ℤ◌, ◌-ℤ◌, ◌*ℤ◌, ◌<ℤ◌}
-use Rattle.std.proofs.Common.{sym, ◌∙◌, ap, ap₂, inl, inr, ⊎_elim, mul-pos, mul-le-mul, arith, ltb→lt, lt→ltb, nltb→le, eq-eqb, eqb-true}
+use Rattle.std.proofs.Common.{sym, ◌∙◌, ap, ap₂, inl, inr, ⊎_elim, mul-pos, mul-le-mul, arith, ltb→lt, lt→ltb, nltb→le, eq-eqb, eqb-true, ltb-true, ltb-false, le-leb}
 use Rattle.std.proofs.Math.IntN.{suc_ℤ, pred_ℤ, one, sub_ℕ, +ℤ_idl, +ℤ_assoc, +ℤ_comm, +ℤ_invr, neg_ℤ-neg_ℤ, neg_ℤ-+ℤ, -ℤ-+ℤ_cancel, zero-*ℤ, *ℤ-one, *ℤ_comm, suc_ℤ-*ℤ, pred_ℤ-*ℤ, suc_ℤ-+ℤ, pred_ℤ-+ℤ}
+use Rattle.std.specs.Int.Signed.{le_z, lt_z}
+use Rattle.std.proofs.lemmas.Bool.{lt-leb}
 use Rattle.matrix.specs.Integer.{equals}
 
 -- induction by successor and predecessor
@@ -181,6 +183,20 @@ equals_no {a} {b} n = go (equals a b) (λ e. n (equals_eq a b e))
     go : (t : Bool) → (t ≡ true → ⊥) → t ≡ false
     go true n = absurd (n refl)
     go false n = refl
+
+-- ---- order as a test
+
+pub above→not_le : (a b : ℤ) → lt_z b a ≡ true → le_z a b ≡ false
+above→not_le (pos a) (pos b) e = lt-leb a b (ltb-true b a e)
+above→not_le (pos a) (negsuc b) e = refl
+above→not_le (negsuc a) (pos b) e = cc
+above→not_le (negsuc a) (negsuc b) e = lt-leb b a (ltb-true a b e)
+
+pub not_above→le : (a b : ℤ) → lt_z b a ≡ false → le_z a b ≡ true
+not_above→le (pos a) (pos b) e = le-leb a b (ltb-false b a e)
+not_above→le (pos a) (negsuc b) e = cc
+not_above→le (negsuc a) (pos b) e = refl
+not_above→le (negsuc a) (negsuc b) e = le-leb b a (ltb-false a b e)
 
 -- ---- the sign of a product: a positive number changes nothing
 

@@ -1,6 +1,6 @@
 -- The text of a list, from its letters.
-use Rattle.std.specs.Prelude.{◌≡◌, refl, ℕ, ◌+◌, ◌*◌, ◌≤◌, ◌<◌, length, Option, Some, None}
-use Rattle.std.proofs.Common.{sym, ap, ◌∙◌, arith, length-append, lt-ltb, le-ltb}
+use Rattle.std.specs.Prelude.{◌≡◌, refl, ℕ, ◌+◌, ◌*◌, ◌≤◌, ◌<◌, length, get_or, drop, Option, Some, None}
+use Rattle.std.proofs.Common.{sym, ap, ◌∙◌, add-one, arith, length-append, drop-cons, lt-ltb, le-ltb}
 use Rattle.std.proofs.lemmas.List.{nil_from_length}
 use Rattle.std.proofs.Math.Seq.{append_snoc}
 use mathlib.Core.List.{List, [], ◌∷◌, ◌++◌, flatten}
@@ -48,6 +48,15 @@ body_of_lem (b ∷ bs) w e = go (gate_of b) (letters_of bs) (body_of_lem bs) e
     go (Some g) (gates v) f e = let t : w ≡ g ∷ v = cc in rw t (ap (λ x. x ++ statement g) (f v refl))
 
 -- ---- from the last letter to the first
+
+-- a letter, and those behind it
+pub letters_next : (bs : List ℕ) (i : ℕ) → i < length bs → letters_of (drop i bs) ≡ before (gate_of (get_or bs i 0)) (letters_of (drop (i + 1) bs))
+unfolding letters_of
+letters_next bs i h = rw (drop-cons bs i 0 h, add-one i)
+
+pub body_next : (bs : List ℕ) (i : ℕ) → i < length bs → body_of (drop i bs) ≡ body_of (drop (i + 1) bs) ++ line_of (gate_of (get_or bs i 0))
+unfolding body_of
+body_next bs i h = rw (drop-cons bs i 0 h, add-one i)
 
 -- the letters are those that are left and those behind them
 pub one_back : {bs left : List ℕ} (behind front : List ℕ) (b : ℕ) → bs ≡ left ++ behind → left ≡ front ++ b ∷ [] → bs ≡ front ++ b ∷ behind

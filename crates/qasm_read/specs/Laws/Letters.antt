@@ -1,7 +1,7 @@
 -- The letters of a text's statements, written from the last place to the first.
 use Rattle.std.specs.Prelude.{◌≡◌, refl, ℕ, suc, ◌-◌, ◌≤◌, ◌<◌, get_or, take, set, Some, Ok}
 use Rattle.std.proofs.Math.Path.{sym, ap, ap₂}
-use Rattle.std.proofs.Common.{◌∙◌, arith, length-append, length-set, take-append-drop, take-suc, length-take-le}
+use Rattle.std.proofs.Common.{◌∙◌, arith, length-append, length-drop, length-set, take-append-drop, drop_of_length-le, take-suc, length-take-le}
 use mathlib.Core.List.{List, [], ◌∷◌, ◌++◌, map, append-nil, append_assoc}
 use Rattle.std.proofs.Math.ListN.{length, drop}
 use Rattle.std.proofs.lemmas.List.{length-map, nil_from_length, set_at}
@@ -74,7 +74,7 @@ module _ (bs : List ℕ) (w : List Gate) (old : List ℕ) where
       here : Last (read_from bs end) g s.list
       here = last_of (read_from bs end) g s.list (sym (ap (λ d. statements (lines d)) a.stands ∙ a.reads (drop end bs)) ∙ s.is)
 
-      left_more : (0 < left) × (left ≤ length w)
+      pub left_more : (0 < left) × (left ≤ length w)
       left_more =
           let n = s.are in
           let m = ap length s.whole ∙ length-append s.list s.back in
@@ -111,6 +111,13 @@ module _ (bs : List ℕ) (w : List Gate) (old : List ℕ) where
             let z : ◌≡◌ {A = ℕ} 0 1 = cc in
             omega arith
 
+    -- and where a byte is left
+    pub never_within : at < length bs → NoStatement (drop at bs) → ⊥
+    never_within h n =
+        let e : refusal 23 ≡ gates s.list = sym (no_statement (drop at bs) (let l = length-drop at bs in omega arith) n) ∙ s.is in
+        let z : ◌≡◌ {A = ℕ} 0 1 = cc in
+        omega arith
+
     pub finished : left ≡ 0 → new ≡ written old (map letter w)
     unfolding written
     finished z =
@@ -119,3 +126,11 @@ module _ (bs : List ℕ) (w : List Gate) (old : List ℕ) where
         s.buffer
         ∙ ap (λ k. (take k old ++ map letter s.back) ++ drop (length w) old) z
         ∙ ap₂ (λ v k. map letter v ++ drop k old) (sym b) (sym (length-map w letter))
+
+    -- behind the last byte no letter is left
+    pub finished_behind : length bs ≤ at → new ≡ written old (map letter w)
+    unfolding lines statements
+    finished_behind h =
+        let e : gates [] ≡ gates s.list = sym (ap (λ d. statements (lines d)) (drop_of_length-le bs h)) ∙ s.is in
+        let n : s.list ≡ [] = cc in
+        finished (s.are ∙ ap length n)

@@ -1,9 +1,10 @@
--- The two entries of each basis matrix are enough.
-use Rattle.std.specs.Prelude.{◌≡◌, refl, Bool, true, ◌||◌, ◌≢◌, ℕ, zero, suc, ◌-◌, ◌<◌, eqb, pos}
-use Rattle.std.proofs.Common.{ap, ap₂, ◌∙◌, arith, ne_eqb}
+-- The two entries of each basis matrix are enough, and none is larger than a unit.
+use Rattle.std.specs.Prelude.{◌≡◌, refl, Bool, true, ◌||◌, ◌&&◌, ◌≢◌, ℕ, zero, suc, ◌-◌, ◌<◌, eqb, leb, pos, nat_abs}
+use Rattle.std.proofs.Common.{ap, ap₂, ◌∙◌, arith, ne_eqb, leb-true}
 use Rattle.matrix.specs.Range.{every, every_from}
 use Rattle.matrix.specs.Laws.Range.{every_sound}
-use Rattle.gaussian.specs.Gaussian.{real, Matrix, ◌⊕◌, ◌⊗◌, conj, product, adjoint, equals}
+use Rattle.matrix.specs.Laws.Test.{and_left, and_right}
+use Rattle.gaussian.specs.Gaussian.{real, Within, Matrix, ◌⊕◌, ◌⊗◌, conj, product, adjoint, equals}
 use Rattle.gaussian.specs.Laws.Gaussian.{⊗-comm, ⊗-zero, zero-⊗, conj_real}
 use Rattle.gaussian.specs.Laws.Matrix.{equals_sound, sum_two}
 use Rattle.unitary.specs.Form.{basis}
@@ -44,3 +45,18 @@ whole_entry X r c hr =
     let l = place_lt r in
     sum_two 6 (place_of r) (5 - place_of r) (λ q. adjoint basis r q ⊗ X q c) (omega arith) (omega arith)
     (λ q hq m n. ap (λ x. conj x ⊗ X q c) (off_places_lem r q hr hq m n) ∙ ap (λ x. x ⊗ X q c) (conj_real (pos 0)) ∙ zero-⊗ (X q c))
+
+-- ---- sizes
+
+is_unit : ℕ → ℕ → Bool
+is_unit p c = leb (nat_abs (basis p c).re) 1 && leb (nat_abs (basis p c).im) 1
+
+all_units : every 6 (λ p. every 6 (is_unit p)) ≡ true
+unfolding every_from is_unit basis
+all_units = refl
+
+pub basis_within : (p c : ℕ) → p < 6 → c < 6 → Within 1 (basis p c)
+unfolding is_unit
+basis_within p c hp hc =
+    let t = every_sound 6 (is_unit p) (every_sound 6 (λ p. every 6 (is_unit p)) all_units p hp) c hc in
+    record { re = leb-true _ _ (and_left (leb (nat_abs (basis p c).re) 1) _ t); im = leb-true _ _ (and_right (leb (nat_abs (basis p c).re) 1) _ t) }

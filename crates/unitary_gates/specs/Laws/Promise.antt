@@ -10,7 +10,7 @@ use Rattle.std.proofs.Math.Seq.{take_at}
 use Rattle.matrix.specs.Matrix.{entry, listed}
 use Rattle.matrix.specs.Operator.{operator, SameUpToSign, Orthogonal}
 use Rattle.matrix.specs.Laws.Operator.{same_operator_sym, same_orthogonal, negative_orthogonal}
-use Rattle.matrix.specs.Laws.Array.{length_listed, listed_same}
+use Rattle.matrix.specs.Laws.Array.{length_listed, least_form_lem, listed_same}
 use Rattle.matrix.specs.declared.Scaled.{Scaled}
 use Rattle.clifford.specs.Columns.{are_column_bytes}
 use Rattle.clifford.specs.Laws.Columns.{matrix_permutation, permutation_complete, columns_valid}
@@ -54,6 +54,7 @@ module _ (U : Quotient) (o : Unitary U) (f : Scaled) (a : FormAs U f) where
   pub record Held (c : Cut) : Type 0 where
     pub count : c.count ≡ form_count U
     pub loose : c.loose ≡ form_loose U
+    pub small : c.count ≤ 2 * U.exponent + 2
     pub numbers : Numbers (take c.count c.numbers)
     pub columns : are_column_bytes c.columns ≡ true
     pub list : gate_list (take c.count c.numbers) c.columns ≡ form_list U
@@ -67,6 +68,7 @@ module _ (U : Quotient) (o : Unitary U) (f : Scaled) (a : FormAs U f) where
       record {
         count = t.count ∙ same_count k (form_of U).exponent m (listed (form_of U).matrix) a.long l computed_orthogonal (array_orthogonal U o) same;
         loose = t.loose ∙ same_loose k (form_of U).exponent m (listed (form_of U).matrix) a.long l computed_orthogonal (array_orthogonal U o) same;
+        small = let h = (least_form_lem k m).below in let e = t.count in let s = a.small in omega arith;
         numbers = rw n q.numbers;
         columns = rw (t.columns) (columns_valid _ (permutation_complete _ (matrix_permutation (entry (remaining k m)) q.orthogonal)));
         list = ap₂ gate_list n (t.columns) ∙ list_of_form U o k m a.long computed_orthogonal a.same;

@@ -38,6 +38,9 @@ pub begun : (w : List Gate) (old : Writer) (code : ℕ) → code ≡ encoded w �
 begun w old code e = record { done = []; left = w; whole = refl; written = word_none old; number = e }
 
 module _ {w : List Gate} {old new : Writer} {rest : ℕ} (s : Begun w old new rest) where
+  pub taken : old.at + length s.done ≡ new.at
+  taken = sym s.written.written.next
+
   -- a letter more
   pub more : rest ≢ 0 → new.at ≤ length old.out.now → {last : Writer} → Writes (letter_at (rest % 8) ∷ []) new last → Begun w old last (rest / 8)
   more n h {last} k = go s.left s.whole s.number
@@ -47,7 +50,7 @@ module _ {w : List Gate} {old new : Writer} {rest : ℕ} (s : Begun w old new re
       go (g ∷ v) p q =
           let (l, u) = digit_bounds g in
           let d : rest % 8 ≡ digit g = omega arith in
-          let e = s.written.written.next in
+          let e = taken in
           record {
             done = s.done ++ g ∷ [];
             left = v;
@@ -69,4 +72,4 @@ module _ {w : List Gate} {old new : Writer} {rest : ℕ} (s : Begun w old new re
     where
       go : (v : List Gate) → w ≡ s.done ++ v → WritesWord w old new
       go [] p = word_as s.written (sym (p ∙ append-nil s.done))
-      go (g ∷ v) p = let e : length w ≡ length s.done + length (g ∷ v) = ap length p ∙ length-append s.done (g ∷ v) in let t = s.written.written.next in absurd (omega arith)
+      go (g ∷ v) p = let e : length w ≡ length s.done + length (g ∷ v) = ap length p ∙ length-append s.done (g ∷ v) in let t = taken in absurd (omega arith)
